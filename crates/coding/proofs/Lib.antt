@@ -1,0 +1,12 @@
+pub mod ListLaws
+pub mod WordLaws
+pub mod WeightLaws
+pub mod MatrixLaws
+pub mod CheckLaws
+pub mod PivotLaws
+pub mod ReduceLaws
+pub mod SearchLaws
+pub mod DependLaws
+pub mod TraceLaws
+pub mod EliminateLaws
+pub mod WidthLaws

@@ -1,0 +1,5 @@
+pub mod Lists
+pub mod Word
+pub mod Matrix
+pub mod Reduced
+pub mod Check

@@ -1,0 +1,1 @@
+// The mathematics of binary linear block codes: definitions in specs/, laws in proofs/. No code.
