@@ -2,6 +2,7 @@ pub mod ListLaws
 pub mod WordLaws
 pub mod WeightLaws
 pub mod MatrixLaws
+pub mod MachineLaws
 pub mod CheckLaws
 pub mod PivotLaws
 pub mod ReduceLaws
@@ -10,3 +11,5 @@ pub mod DependLaws
 pub mod TraceLaws
 pub mod EliminateLaws
 pub mod WidthLaws
+pub mod EchelonLaws
+pub mod UniqueLaws

@@ -14,17 +14,11 @@ use lib.Bits.{xor-lt}
 use Rattle.coding.specs.Lists.{blank}
 use Rattle.coding.specs.Word.{_⊕_, bit}
 use Rattle.coding.specs.Matrix.{sel, encode, Codeword, Inside, Independent, IsMessage, messageOf}
-use Rattle.coding.specs.Reduced.{wipe, wipes, put, reduce}
+use Rattle.coding.specs.Reduced.{wipe, wipes, put, reduce, Traced}
 use Rattle.coding.proofs.MatrixLaws.{sel-lt, encode-xor, encode-zero, encode-lt}
 use Rattle.coding.proofs.ReduceLaws.{put-length, put-same, put-other, blank-at, codeword-kept}
 use Rattle.coding.proofs.SearchLaws.{message-hit, message-le}
 use Rattle.coding.proofs.DependLaws.{one-message}
-
--- M holds a message of the matrix for each row by place of B
-pub record Traced (rs M B : List ℕ) : Type 0 where
-  pub size : length M ≡ length B
-  pub below : Inside (length rs) M
-  pub sums : (p : ℕ) → p < length B → encode rs (getD M p 0) ≡ getD B p 0
 
 pub sel-encode : (rs : List ℕ) (c m : ℕ) → encode rs (sel c m) ≡ sel c (encode rs m)
 sel-encode rs zero m = encode-zero rs

@@ -22,6 +22,10 @@ use Rattle.coding.proofs.CheckLaws.{sel-zero}
 use Rattle.coding.proofs.PivotLaws.{ByPlace}
 use Rattle.coding.proofs.ReduceLaws.{IsLead, is-lead, added, start, rest-lt, wipe-zero}
 
+-- words of n places are words of m places
+pub inside-wide : (n m : ℕ) → n ≤ m → (rs : List ℕ) → Inside n rs → Inside m rs
+inside-wide n m wide rs f i h = lt-of-lt-of-le (f i h) (pow-mono wide)
+
 -- ---- zero rows at the end
 
 encode-blank : (m u : ℕ) → encode (blank m) u ≡ 0

@@ -4,10 +4,14 @@ use Prim.Native.Nat.{ℕ, zero, suc, _+_, _*_, _^_}
 use Rattle.coding.specs.Word.{_⊕_, bit, parity}
 use Rattle.coding.specs.Reduced.{reduce, freesFrom}
 
+-- the word whose place i is the digit of entry i
+abbrev pub places : (ℕ → ℕ) → List ℕ → ℕ
+places digit [] = 0
+places digit (x ∷ l) = digit x + 2 * places digit l
+
 -- place q of each row of the list
 abbrev pub column : List ℕ → ℕ → ℕ
-column [] q = 0
-column (r ∷ rows) q = bit r q + 2 * column rows q
+column rows q = places (λ r. bit r q) rows
 
 -- the check row of a place q that is no pivot: a 1 at its own place, and at each pivot the value at q of that pivot's row
 abbrev pub check : List ℕ → ℕ → ℕ
@@ -23,5 +27,4 @@ checks n rows = checksOf (reduce n rows)
 
 -- syndrome bit j is the parity of the word's places where check row j has a 1
 abbrev pub syndrome : List ℕ → ℕ → ℕ
-syndrome [] w = 0
-syndrome (h ∷ hs) w = parity w h + 2 * syndrome hs w
+syndrome hs w = places (parity w) hs

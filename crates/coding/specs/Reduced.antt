@@ -7,7 +7,7 @@ use lib.ListN.{length, getD, set}
 use lib.Count.{trailingZeros}
 use Rattle.coding.specs.Lists.{blank}
 use Rattle.coding.specs.Word.{_⊕_, bit}
-use Rattle.coding.specs.Matrix.{sel, encode, Codeword}
+use Rattle.coding.specs.Matrix.{sel, encode, Codeword, Inside}
 
 -- the leftmost one of w stands at place p
 pub record Leads (w p : ℕ) : Type 0 where
@@ -84,3 +84,9 @@ reducedRows n rows = rowsOf (reduce n rows)
 
 abbrev pub pivots : ℕ → List ℕ → List ℕ
 pivots n rows = pivotsFrom 0 (reduce n rows)
+
+-- beside the reduced rows by place, B, stand messages: M has for each row of B one whose codeword is that row
+pub record Traced (rows M B : List ℕ) : Type 0 where
+  pub size : length M ≡ length B
+  pub below : Inside (length rows) M
+  pub sums : (p : ℕ) → p < length B → encode rows (getD M p 0) ≡ getD B p 0

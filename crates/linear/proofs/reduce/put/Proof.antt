@@ -1,0 +1,111 @@
+-- `linear::reduce::put`: the first p entries are those of the wiped list. Assumes nothing.
+use mathlib.Core.Path.{_≡_, sym, ap, ap₂, _∙_}
+use mathlib.Core.List.{List}
+use Prim.Native.Nat.{ℕ, _/_, _%_, _^_, _≤_, _<_, _-_, _+_}
+use lib.ListN.{length, getD, set}
+use Rattle.coding.specs.Word.{_⊕_, bit}
+use Rattle.coding.specs.Matrix.{sel}
+use Rattle.coding.specs.Reduced.{wipes}
+use Rattle.coding.proofs.ListLaws.{over, over-set, over-next, over-whole}
+use Rattle.coding.proofs.TraceLaws.{wipes-at, wipes-length}
+use borrow.Author.Needs.{needs}
+use native.Mathlib.Omega.{arith}
+use Rattle.linear.proofs.reduce.put.Statement.{statement}
+use Rattle.linear.proofs.reduce.put.Tie as tie
+
+abbrev Inv-loop : tie.InvT-loop
+Inv-loop rows entries₀ q x p₀ entries p = (p ≤ 32) × (entries ≡ over (wipes q rows entries₀ x) entries₀ p)
+
+abbrev μ-loop : tie.MeasureT-loop
+μ-loop rows entries₀ q x p₀ entries p = 32 - p
+
+loop-holds : tie.Need-loop-holds Inv-loop μ-loop
+loop-holds c = search needs
+
+mul-entries : tie.Need-mul-entries Inv-loop μ-loop
+mul-entries c = search needs
+
+element-copy-out-entries : tie.Need-element-copy-out-entries Inv-loop μ-loop
+element-copy-out-entries c = search needs
+
+mul-selected : tie.Need-mul-selected Inv-loop μ-loop
+mul-selected c = search needs
+
+element-copy-out-selected : tie.Need-element-copy-out-selected Inv-loop μ-loop
+element-copy-out-selected c = search needs
+
+cast-selected : tie.Need-cast-selected Inv-loop μ-loop
+cast-selected c = search needs
+
+shr-selected : tie.Need-shr-selected Inv-loop μ-loop
+shr-selected c = search needs
+
+selected-requires : tie.Need-selected-requires Inv-loop μ-loop
+selected-requires c κs = search needs
+
+mul-entries-2 : tie.Need-mul-entries-2 Inv-loop μ-loop
+mul-entries-2 c = search needs
+
+element-write-entries : tie.Need-element-write-entries Inv-loop μ-loop
+element-write-entries c = search needs
+
+add-p : tie.Need-add-p Inv-loop μ-loop
+add-p c = search needs
+
+loop-less : tie.Need-loop-less Inv-loop μ-loop
+loop-less c = search needs
+
+loop-again : tie.Need-loop-again Inv-loop μ-loop
+loop-again c =
+    let l = c .before .before .before .before .loop in
+    let s = c .before .before .before .before .before in
+    let a = s .args in
+    let W = wipes (a .q) (a .rows .now) (a .entries .now) (a .x) in
+    let same : length (a .entries .now) ≡ length (a .rows .now) = omega arith in
+    let long : length W ≡ 32 = wipes-length (a .q) (a .rows .now) (a .entries .now) (a .x) same ∙ s .pre .1 in
+    let next : getD (l .entries) (l .p) 0 ≡ getD (a .entries .now) (l .p) 0
+    = ap (λ (e : List ℕ). getD e (l .p) 0) (l .inv .1) ∙ over-next W (a .entries .now) (l .p) (omega arith) in
+    let v : getD (l .entries) (l .p) 0 ⊕ c .selected .result ≡ getD W (l .p) 0
+    = ap₂ _⊕_ next (c .selected .ensures) ∙ sym (wipes-at (a .q) (a .rows .now) (a .entries .now) (a .x) (l .p) same (omega arith)) in
+    (search needs, ap (λ (e : List ℕ). set e (l .p) (getD (l .entries) (l .p) 0 ⊕ c .selected .result)) (l .inv .1)
+        ∙ over-set W (a .entries .now) (l .p) _ (omega arith) (omega arith) v)
+
+mul-entries-3 : tie.Need-mul-entries-3 Inv-loop μ-loop
+mul-entries-3 c = search needs
+
+element-write-entries-2 : tie.Need-element-write-entries-2 Inv-loop μ-loop
+element-write-entries-2 c = search needs
+
+returns : tie.Need-returns Inv-loop μ-loop
+returns c =
+    let l = c .before .loop in
+    let s = c .before .before in
+    let a = s .args in
+    let same : length (a .entries .now) ≡ length (a .rows .now) = omega arith in
+    let long : length (wipes (a .q) (a .rows .now) (a .entries .now) (a .x)) ≡ length (a .entries .now)
+    = wipes-length (a .q) (a .rows .now) (a .entries .now) (a .x) same ∙ sym same in
+    ap (λ (e : List ℕ). set e (a .q) (a .x))
+    (l .inv .1 ∙ over-whole (wipes (a .q) (a .rows .now) (a .entries .now) (a .x)) (a .entries .now) (l .p) long (omega arith))
+
+pub put-spec : {M : Type 1} → statement M
+put-spec =
+    tie.close
+    (tie.spec
+    Inv-loop
+    μ-loop
+    loop-holds
+    mul-entries
+    element-copy-out-entries
+    mul-selected
+    element-copy-out-selected
+    cast-selected
+    shr-selected
+    selected-requires
+    mul-entries-2
+    element-write-entries
+    add-p
+    loop-less
+    loop-again
+    mul-entries-3
+    element-write-entries-2
+    returns)

@@ -1,0 +1,21 @@
+-- The limits of 01, "Words and matrices" and cause 6. No other definition has these numbers.
+use mathlib.Core.Bool.{Bool, true, false}
+use Prim.Native.Nat.{ℕ, _+_, _≤_}
+use lib.Dec.{leb}
+
+abbrev pub maxWords : ℕ
+maxWords = 512
+
+-- n is 2 to 28, k is 1 to 16, n - k is 1 to 12
+pub record InRange (n k : ℕ) : Type 0 where
+  pub places : (2 ≤ n) × (n ≤ 28)
+  pub rows : (1 ≤ k) × (k ≤ 16)
+  pub checks : (k + 1 ≤ n) × (n ≤ k + 12)
+
+abbrev pub both : Bool → Bool → Bool
+both true b = b
+both false b = false
+
+-- the same as a test
+abbrev pub inRange : ℕ → ℕ → Bool
+inRange n k = both (leb 2 n) (both (leb n 28) (both (leb 1 k) (both (leb k 16) (both (leb (k + 1) n) (leb n (k + 12))))))

@@ -1,0 +1,52 @@
+// How an operation on lists ends: document 01, "Causes and numbers".
+ghost use mathlib.Core.Path.{_≡_};
+ghost use Rattle.linear.specs.Refusal.{numberOf, valueOf};
+
+// One case for each cause; what it holds is the value returned beside the number.
+pub enum Refusal {
+    OutOfRange,
+    RowCount,
+    RowOutside(usize),
+    Dependent(usize),
+    TooManyWords,
+    WordOutside(usize),
+    ShortOutput,
+    NoCodeword(usize),
+}
+
+pub enum Answer {
+    Done,
+    Refused(Refusal),
+}
+
+// The number of a refusal's cause.
+pub fn number(r: Refusal) -> u32
+    ensures { λ a. ⌜ a ≡ numberOf r ⌝ }
+{
+    match r {
+        Refusal::OutOfRange => 1,
+        Refusal::RowCount => 2,
+        Refusal::RowOutside(_) => 3,
+        Refusal::Dependent(_) => 4,
+        Refusal::TooManyWords => 6,
+        Refusal::WordOutside(_) => 7,
+        Refusal::ShortOutput => 8,
+        Refusal::NoCodeword(_) => 10,
+    }
+}
+
+// The value returned beside it.
+pub fn value(r: Refusal) -> usize
+    ensures { λ a. ⌜ a ≡ valueOf r ⌝ }
+{
+    match r {
+        Refusal::OutOfRange => 0,
+        Refusal::RowCount => 0,
+        Refusal::RowOutside(i) => i,
+        Refusal::Dependent(i) => i,
+        Refusal::TooManyWords => 0,
+        Refusal::WordOutside(i) => i,
+        Refusal::ShortOutput => 0,
+        Refusal::NoCodeword(i) => i,
+    }
+}

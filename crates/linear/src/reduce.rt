@@ -1,0 +1,106 @@
+// Part 1: the reduced row echelon form.
+use crate::accept::shape;
+use crate::answer::{Answer, Refusal};
+use crate::word::selected;
+ghost use mathlib.Core.Path.{_≡_};
+ghost use Prim.Native.Nat.{ℕ, _<_, _≤_, _^_};
+ghost use lib.ListN.{length, getD, set};
+ghost use Rattle.coding.specs.Matrix.{Inside};
+ghost use Rattle.coding.specs.Reduced.{wipes};
+ghost use Rattle.linear.specs.Eliminated.{Eliminated, ReductionOf};
+
+// Reduced rows listed by place: entry p is the row whose pivot is p, or 0. Beside each stands a message that has it as its codeword.
+pub(crate) struct Elimination {
+    pub(crate) rank: usize,
+    pub(crate) table: [u32; 32],
+    pub(crate) messages: [u32; 32],
+}
+
+// Adds x to the entries beside the rows that have a one at place q, and puts x at q.
+fn put(rows: &[u32; 32], entries: &mut [u32; 32], q: usize, x: u32)
+    requires { ⌜ (q < 32) × (length (now rows) ≡ 32) × (length (now entries) ≡ 32) ⌝ }
+    ensures { λ _. ⌜ now (entries .exit) ≡ set (wipes q (now (rows .entry)) (now (entries .entry)) x) q x ⌝ }
+{
+    let mut p: usize = 0;
+    while p < 32 {
+        entries[p] = entries[p] ^ selected(x, rows[p] >> q);
+        p += 1;
+    }
+    entries[q] = x;
+}
+
+// Gauss-Jordan elimination over rows and places: each row is cleared at the pivots of the rows before it, and the search ends
+// at the first row that cancels to zero.
+pub(crate) fn eliminate(rows: &[u32]) -> Elimination
+    requires { ⌜ length (now rows) ≤ 32 ⌝ }
+    requires { ⌜ Inside 32 (now rows) ⌝ }
+    ensures { λ r. ⌜ Eliminated (now (rows .entry)) r ⌝ }
+{
+    let mut table = [0u32; 32];
+    let mut messages = [0u32; 32];
+    let mut i: usize = 0;
+    'rows: while i < rows.len() {
+        let mut x = rows[i];
+        let mut m = 1u32 << i;
+        let mut p: usize = 0;
+        loop {
+            if x == 0 {
+                break 'rows;
+            }
+            if p == 32 {
+                break;
+            }
+            let b = x >> p;
+            x = x ^ selected(table[p], b);
+            m = m ^ selected(messages[p], b);
+            p += 1;
+        }
+        let q = u32::trailing_zeros(x) as usize;
+        let before = table;
+        put(&before, &mut table, q, x);
+        put(&before, &mut messages, q, m);
+        i += 1;
+    }
+    Elimination {
+        rank: i,
+        table,
+        messages,
+    }
+}
+
+// The answer to a matrix, and where it is accepted what its elimination gave.
+pub(crate) struct Reduction {
+    pub(crate) answer: Answer,
+    pub(crate) table: [u32; 32],
+    pub(crate) messages: [u32; 32],
+}
+
+// Causes 1 to 4, and the elimination that tells the fourth.
+pub(crate) fn reduce(n: u32, k: u32, rows: &[u32]) -> Reduction
+    ensures { λ r. ⌜ ReductionOf n k (now (rows .entry)) r ⌝ }
+{
+    let a = shape(n, k, rows);
+    let Answer::Done = a else {
+        return Reduction {
+            answer: a,
+            table: [0u32; 32],
+            messages: [0u32; 32],
+        };
+    };
+    let e = eliminate(rows);
+    let rank = e.rank;
+    if rank != rows.len() {
+        return Reduction {
+            answer: Answer::Refused(Refusal::Dependent(rank)),
+            table: [0u32; 32],
+            messages: [0u32; 32],
+        };
+    }
+    let table = e.table;
+    let messages = e.messages;
+    Reduction {
+        answer: Answer::Done,
+        table,
+        messages,
+    }
+}
