@@ -3,14 +3,16 @@
 use mathlib.Core.Path.{_≡_, refl, sym, ap, ap₂, _∙_}
 use mathlib.Core.Logic.{_≢_}
 use mathlib.Core.List.{List, [], _∷_, map}
-use Prim.Native.Nat.{ℕ, zero, suc, _+_, _*_, _/_, _%_, _^_, _<_, min, suc-le-suc}
-use native.Mathlib.Nat.{le-refl, pow-suc, suc-ne-zero, suc-inj, add-zero, add-suc, suc-add}
+use Prim.Native.Nat.{ℕ, zero, suc, _+_, _*_, _/_, _%_, _^_, _<_, _≤_, _-_, min, suc-le-suc}
+use native.Mathlib.Nat.{le-refl, pow-suc, suc-ne-zero, suc-inj, add-zero, add-suc, suc-add, lt-of-lt-of-le}
 use native.Mathlib.Omega.{arith}
-use lib.ListN.{length, getD}
+use lib.ListN.{length, getD, drop, length-drop}
+use lib.Seq.{drop-cons}
+use lib.Pow.{pow-mono}
 use Rattle.coding.specs.Word.{_⊕_, bit, parity}
 use Rattle.coding.specs.Matrix.{sel, encode}
 use Rattle.coding.specs.Reduced.{rest, freesFrom}
-use Rattle.coding.specs.Check.{column, check, syndrome}
+use Rattle.coding.specs.Check.{places, column, check, syndrome}
 use Rattle.coding.proofs.WordLaws.{bit-lt, bit-half, bit-zeroth, bit-of-zero, bit-xor, halves-eq, xor-half, xor-digit}
 use Rattle.coding.proofs.WeightLaws.{parity-lt, parity-xor, parity-xor-r, parity-zero, parity-pow, parity-step}
 
@@ -58,9 +60,13 @@ sel-zero (suc c) = refl
 
 -- ---- syndromes are additive, and have a place for each check row
 
+-- digits one after the other make a word of as many places
+pub places-lt : (digit : ℕ → ℕ) → ((x : ℕ) → digit x < 2) → (l : List ℕ) → places digit l < 2 ^ length l
+places-lt digit f [] = le-refl 1
+places-lt digit f (x ∷ l) = omega (arith, places-lt digit f l, f x, pow-suc 2 (length l))
+
 pub syndrome-lt : (hs : List ℕ) (w : ℕ) → syndrome hs w < 2 ^ length hs
-syndrome-lt [] w = le-refl 1
-syndrome-lt (h ∷ hs) w = omega (arith, syndrome-lt hs w, parity-lt w h, pow-suc 2 (length hs))
+syndrome-lt hs w = places-lt (parity w) (parity-lt w) hs
 
 -- a sum of two words, by their lowest places and the rest
 cons-xor : (p q s t : ℕ) → p < 2 → q < 2 → (p + 2 * s) ⊕ (q + 2 * t) ≡ (p + q) % 2 + 2 * (s ⊕ t)
@@ -93,3 +99,20 @@ pub syndrome-none : (f : ℕ → ℕ) (rs : List ℕ) (i w : ℕ) → ((j : ℕ)
 syndrome-none f [] i w h = refl
 syndrome-none f (zero ∷ rs) i w h = omega (arith, h i, syndrome-none f rs (suc i) w h)
 syndrome-none f (suc r ∷ rs) i w h = syndrome-none f rs (suc i) w h
+
+-- ---- a loop over the entries, from the last to the first: the digit of the entry before j becomes the lowest
+
+module _ (digit : ℕ → ℕ) (l : List ℕ) (j : ℕ) (h : 0 < j) (k : j ≤ length l) where
+  pub places-back : places digit (drop j l) * 2 + digit (getD l (j - 1) 0) ≡ places digit (drop (j - 1) l)
+  places-back = go j h k
+    where
+      less : (i : ℕ) → suc i - 1 ≡ i
+      less i = omega arith
+
+      go : (j : ℕ) → 0 < j → j ≤ length l → places digit (drop j l) * 2 + digit (getD l (j - 1) 0) ≡ places digit (drop (j - 1) l)
+      go zero h k = absurd (omega arith)
+      go (suc i) h k = rw (less i) (sym (ap (places digit) (drop-cons l i 0 k) ∙ omega arith))
+
+  -- and fits a machine word that has a place for each entry
+  pub places-fit : ((x : ℕ) → digit x < 2) → (m : ℕ) → length l ≤ m → places digit (drop j l) * 2 + digit (getD l (j - 1) 0) < 2 ^ m
+  places-fit f m w = rw places-back (lt-of-lt-of-le (places-lt digit f (drop (j - 1) l)) (pow-mono (simp length-drop (omega arith))))

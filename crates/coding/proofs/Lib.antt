@@ -13,3 +13,4 @@ pub mod EliminateLaws
 pub mod WidthLaws
 pub mod EchelonLaws
 pub mod UniqueLaws
+pub mod CompactLaws

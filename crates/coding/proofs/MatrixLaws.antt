@@ -52,6 +52,11 @@ encode-lt n (r ∷ rs) f u =
 encode-drop : (rs : List ℕ) (i m : ℕ) → i < length rs → encode (drop i rs) m ≡ sel (m % 2) (getD rs i 0) ⊕ encode (drop (i + 1) rs) (m / 2)
 encode-drop rs i m h = ap (λ (l : List ℕ). encode l m) (drop-cons rs i 0 h) ∙ ap (λ (n : ℕ). sel (m % 2) (getD rs i 0) ⊕ encode (drop n rs) (m / 2)) (sym (add-one i))
 
+pub encode-step : (rs : List ℕ) (i m w e : ℕ) → i < length rs → w ⊕ encode (drop i rs) m ≡ e
+    → (w ⊕ sel (m % 2) (getD rs i 0)) ⊕ encode (drop (i + 1) rs) (m / 2) ≡ e
+encode-step rs i m w e h k =
+    xor-assoc w (sel (m % 2) (getD rs i 0)) (encode (drop (i + 1) rs) (m / 2)) ∙ ap (λ (x : ℕ). w ⊕ x) (sym (encode-drop rs i m h)) ∙ k
+
 pub encode-end : (rs : List ℕ) (i m w e : ℕ) → length rs ≤ i → w ⊕ encode (drop i rs) m ≡ e → w ≡ e
 encode-end rs i m w e h k = sym (xor-zero-r w) ∙ ap (λ (l : List ℕ). w ⊕ encode l m) (sym (drop-of-length-le rs h)) ∙ k
 

@@ -1,1 +1,4 @@
 pub mod AcceptLaws
+pub mod PackLaws
+pub mod TableLaws
+pub mod ListLaws

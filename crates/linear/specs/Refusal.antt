@@ -42,3 +42,8 @@ andThen (Refused c) later = Refused c
 abbrev pub onDone : Answer → List ℕ → List ℕ → List ℕ
 onDone Done new old = new ++ drop (length new) old
 onDone (Refused c) new old = old
+
+-- a part of an answer by value: what it holds on success, and on a refusal
+abbrev pub ifDone : {A : Type 0} → Answer → A → A → A
+ifDone Done a b = a
+ifDone (Refused c) a b = b

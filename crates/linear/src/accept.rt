@@ -1,6 +1,10 @@
 // Causes 1 to 4: which matrices are accepted.
-use crate::answer::{Answer, Refusal};
-use crate::limits::{MAX_CHECKS, MAX_PLACES, MAX_ROWS, MIN_PLACES};
+use crate::answer::Answer;
+use crate::answer::Refusal;
+use crate::limits::MAX_CHECKS;
+use crate::limits::MAX_PLACES;
+use crate::limits::MAX_ROWS;
+use crate::limits::MIN_PLACES;
 use crate::reduce::reduce;
 use crate::word::fits;
 ghost use mathlib.Core.Path.{_≡_};

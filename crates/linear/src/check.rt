@@ -1,17 +1,111 @@
 // Part 2: parity-check rows and syndromes.
+use crate::answer::Answer;
+use crate::reduce::reduce;
 use crate::word::parity;
+use crate::word::place;
 ghost use mathlib.Core.Path.{_≡_};
-ghost use Rattle.coding.specs.Check.{syndrome};
+ghost use mathlib.Core.List.{map};
+ghost use Prim.Native.Nat.{_≤_};
+ghost use lib.ListN.{length, take};
+ghost use Rattle.coding.specs.Lists.{padded};
+ghost use Rattle.coding.specs.Reduced.{freesFrom};
+ghost use Rattle.coding.specs.Check.{column, check, syndrome};
+ghost use Rattle.linear.specs.Checks.{CodeOf, ParityChecks};
 
-// Bit j is the parity of the word's places where check row j has a 1.
-pub fn syndrome(checks: &[u32; 12], w: u32) -> u32
+// The answer to a matrix, and where it is accepted its n - k check rows; 0 at every other entry.
+pub struct Checks {
+    pub answer: Answer,
+    pub rows: [u32; 12],
+}
+
+fn parities(checks: &[u32], w: u32) -> u32
+    requires { ⌜ length (now checks) ≤ 32 ⌝ }
     ensures { λ r. ⌜ r ≡ syndrome (now (checks .entry)) w ⌝ }
 {
     let mut s: u32 = 0;
-    let mut j: usize = 12;
+    let mut j: usize = checks.len();
     while 0 < j {
         j -= 1;
         s = s * 2 + parity(w, checks[j]);
     }
     s
+}
+
+// Bit j is the parity of the word's places where check row j has a 1.
+pub fn syndrome(checks: &[u32; 12], w: u32) -> u32
+    ensures { λ r. ⌜ r ≡ syndrome (now (checks .entry)) w ⌝ }
+{
+    parities(checks, w)
+}
+
+// Place q of each row.
+fn column(rows: &[u32], q: u32) -> u32
+    requires { ⌜ length (now rows) ≤ 32 ⌝ }
+    ensures { λ r. ⌜ r ≡ column (now (rows .entry)) q ⌝ }
+{
+    let mut c: u32 = 0;
+    let mut p: usize = rows.len();
+    while 0 < p {
+        p -= 1;
+        c = c * 2 + place(rows[p], q);
+    }
+    c
+}
+
+// The check rows of the places below n that are no pivot, in rising order.
+fn check_rows(table: &[u32], n: usize) -> [u32; 12]
+    requires { ⌜ (length (now table) ≡ 32) × (n ≤ 32) × (length (freesFrom 0 (take n (now table))) ≤ 12) ⌝ }
+    ensures { λ r. ⌜ r ≡ padded 12 (map (check (now (table .entry))) (freesFrom 0 (take n (now (table .entry))))) ⌝ }
+{
+    let mut checks = [0u32; 12];
+    let mut j: usize = 0;
+    let mut q: usize = 0;
+    while q < n {
+        if table[q] == 0 {
+            checks[j] = (1u32 << q) ^ column(table, q as u32);
+            j += 1;
+        }
+        q += 1;
+    }
+    checks
+}
+
+// What parts 1 and 2 give for an accepted matrix: its check rows, and beside each pivot a message that has the reduced row of
+// that pivot as its codeword; 0 at every other entry.
+pub(crate) struct Code {
+    pub(crate) answer: Answer,
+    pub(crate) checks: [u32; 12],
+    pub(crate) messages: [u32; 32],
+}
+
+pub(crate) fn code_of(n: u32, k: u32, rows: &[u32]) -> Code
+    ensures { λ r. ⌜ CodeOf n k (now (rows .entry)) r ⌝ }
+{
+    let r = reduce(n, k, rows);
+    let answer = r.answer;
+    let Answer::Done = answer else {
+        return Code {
+            answer,
+            checks: [0u32; 12],
+            messages: [0u32; 32],
+        };
+    };
+    let table = r.table;
+    let checks = check_rows(&table, n as usize);
+    let messages = r.messages;
+    Code {
+        answer: Answer::Done,
+        checks,
+        messages,
+    }
+}
+
+// The parity-check rows of an accepted matrix.
+pub fn parity_checks(n: u32, k: u32, rows: &[u32]) -> Checks
+    ensures { λ r. ⌜ ParityChecks n k (now (rows .entry)) r ⌝ }
+{
+    let c = code_of(n, k, rows);
+    let answer = c.answer;
+    let rows = c.checks;
+    Checks { answer, rows }
 }

@@ -1,13 +1,16 @@
 // Part 1: the reduced row echelon form.
 use crate::accept::shape;
-use crate::answer::{Answer, Refusal};
+use crate::answer::Answer;
+use crate::answer::Refusal;
 use crate::word::selected;
 ghost use mathlib.Core.Path.{_≡_};
 ghost use Prim.Native.Nat.{ℕ, _<_, _≤_, _^_};
 ghost use lib.ListN.{length, getD, set};
 ghost use Rattle.coding.specs.Matrix.{Inside};
-ghost use Rattle.coding.specs.Reduced.{wipes};
+ghost use Rattle.coding.specs.Lists.{padded};
+ghost use Rattle.coding.specs.Reduced.{wipes, rowsOf};
 ghost use Rattle.linear.specs.Eliminated.{Eliminated, ReductionOf};
+ghost use Rattle.linear.specs.ReducedRows.{ReducedRows};
 
 // Reduced rows listed by place: entry p is the row whose pivot is p, or 0. Beside each stands a message that has it as its codeword.
 pub(crate) struct Elimination {
@@ -102,5 +105,48 @@ pub(crate) fn reduce(n: u32, k: u32, rows: &[u32]) -> Reduction
         answer: Answer::Done,
         table,
         messages,
+    }
+}
+
+// The answer to a matrix, and where it is accepted its k reduced rows; 0 at every other entry.
+pub struct Reduced {
+    pub answer: Answer,
+    pub rows: [u32; 16],
+}
+
+// The rows of a table by place, without the places that are no pivot.
+fn compact(table: &[u32]) -> [u32; 16]
+    requires { ⌜ length (rowsOf (now table)) ≤ 16 ⌝ }
+    ensures { λ r. ⌜ r ≡ padded 16 (rowsOf (now (table .entry))) ⌝ }
+{
+    let mut rows = [0u32; 16];
+    let mut j: usize = 0;
+    let mut q: usize = 0;
+    while q < table.len() {
+        if table[q] != 0 {
+            rows[j] = table[q];
+            j += 1;
+        }
+        q += 1;
+    }
+    rows
+}
+
+// The reduced row echelon form of an accepted matrix.
+pub fn reduced_rows(n: u32, k: u32, rows: &[u32]) -> Reduced
+    ensures { λ r. ⌜ ReducedRows n k (now (rows .entry)) r ⌝ }
+{
+    let r = reduce(n, k, rows);
+    let a = r.answer;
+    let Answer::Done = a else {
+        return Reduced {
+            answer: a,
+            rows: [0u32; 16],
+        };
+    };
+    let table = r.table;
+    Reduced {
+        answer: Answer::Done,
+        rows: compact(&table),
     }
 }

@@ -37,22 +37,14 @@ pub fn parity(w: u32, h: u32) -> u32
 pub fn place(w: u32, i: u32) -> u32
     ensures { λ r. ⌜ r ≡ bit w i ⌝ }
 {
-    if i < 32 {
-        (w >> i) & 1
-    } else {
-        0
-    }
+    if i < 32 { (w >> i) & 1 } else { 0 }
 }
 
 // Whether w has no one at place n or beyond.
 pub fn fits(w: u32, n: u32) -> bool
     ensures { λ r. ⌜ r ≡ ltb w (2 ^ n) ⌝ }
 {
-    if n < 32 {
-        (w >> n) == 0
-    } else {
-        true
-    }
+    if n < 32 { (w >> n) == 0 } else { true }
 }
 
 // The row where the lowest place of m is 1, else the zero word.

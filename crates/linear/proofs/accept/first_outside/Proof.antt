@@ -45,9 +45,9 @@ loop-less c = search needs
 
 loop-again : tie.Need-loop-again Inv-loop μ-loop
 loop-again c = (
-      search needs,
-      below-more _ _ (c .before .before .before .before .loop .inv .1) (ap not (sym (c .before .fits2 .ensures)) ∙ c .if1 .left),
-    )
+  search needs,
+  below-more _ _ (c .before .before .before .before .loop .inv .1) (ap not (sym (c .before .fits2 .ensures)) ∙ c .if1 .left),
+)
 
 returns-2 : tie.Need-returns-2 Inv-loop μ-loop
 returns-2 c =

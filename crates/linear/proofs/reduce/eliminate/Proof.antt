@@ -134,18 +134,24 @@ put-requires c κs =
     let t = c .before .before in
     let o = t .before .before .before .before .before in
     let s = o .before .before in
-    let R = shape-at t in
-    (row-place 32 (s .args .rows .now) (s .pre .1) (o .rows .i) (t .before .before .before .before .rows-test .taken) (o .rows .table)
-    (o .rows .inv .1) (t .before .before .loop .x) (left-at t) (t .before .loop-test .left), R .size, R .size)
+    let R = shape-at t in (
+      row-place 32 (s .args .rows .now) (s .pre .1) (o .rows .i) (t .before .before .before .before .rows-test .taken) (o .rows .table)
+          (o .rows .inv .1) (t .before .before .loop .x) (left-at t) (t .before .loop-test .left),
+      R .size,
+      R .size,
+    )
 
 put-requires-2 : tie.Need-put-requires-2 Inv-loop μ-loop Inv-rows μ-rows
 put-requires-2 c κs =
     let t = c .before .before .before .before .before in
     let o = t .before .before .before .before .before in
     let s = o .before .before in
-    let R = shape-at t in
-    (row-place 32 (s .args .rows .now) (s .pre .1) (o .rows .i) (t .before .before .before .before .rows-test .taken) (o .rows .table)
-    (o .rows .inv .1) (t .before .before .loop .x) (left-at t) (t .before .loop-test .left), R .size, o .rows .inv .3 .size ∙ R .size)
+    let R = shape-at t in (
+      row-place 32 (s .args .rows .now) (s .pre .1) (o .rows .i) (t .before .before .before .before .rows-test .taken) (o .rows .table)
+          (o .rows .inv .1) (t .before .before .loop .x) (left-at t) (t .before .loop-test .left),
+      R .size,
+      o .rows .inv .3 .size ∙ R .size,
+    )
 
 add-i : tie.Need-add-i Inv-loop μ-loop Inv-rows μ-rows
 add-i c = search needs

@@ -66,9 +66,11 @@ loop-again c =
     let next : getD (l .entries) (l .p) 0 ≡ getD (a .entries .now) (l .p) 0
     = ap (λ (e : List ℕ). getD e (l .p) 0) (l .inv .1) ∙ over-next W (a .entries .now) (l .p) (omega arith) in
     let v : getD (l .entries) (l .p) 0 ⊕ c .selected .result ≡ getD W (l .p) 0
-    = ap₂ _⊕_ next (c .selected .ensures) ∙ sym (wipes-at (a .q) (a .rows .now) (a .entries .now) (a .x) (l .p) same (omega arith)) in
-    (search needs, ap (λ (e : List ℕ). set e (l .p) (getD (l .entries) (l .p) 0 ⊕ c .selected .result)) (l .inv .1)
-        ∙ over-set W (a .entries .now) (l .p) _ (omega arith) (omega arith) v)
+    = ap₂ _⊕_ next (c .selected .ensures) ∙ sym (wipes-at (a .q) (a .rows .now) (a .entries .now) (a .x) (l .p) same (omega arith)) in (
+      search needs,
+      ap (λ (e : List ℕ). set e (l .p) (getD (l .entries) (l .p) 0 ⊕ c .selected .result)) (l .inv .1)
+          ∙ over-set W (a .entries .now) (l .p) _ (omega arith) (omega arith) v,
+    )
 
 mul-entries-3 : tie.Need-mul-entries-3 Inv-loop μ-loop
 mul-entries-3 c = search needs

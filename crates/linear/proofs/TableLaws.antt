@@ -1,0 +1,109 @@
+-- Laws of the table of an accepted matrix, its reduced rows in 32 places: the rows, check rows and messages that are read off it are
+-- those of the definitions in n places. Assumes nothing.
+use mathlib.Core.Path.{_≡_, refl, sym, ap, ap₂, _∙_}
+use mathlib.Core.Logic.{_↔_}
+use mathlib.Core.List.{List, _++_, map}
+use mathlib.Core.Bool.{Bool, true, false, not}
+use Prim.Native.Nat.{ℕ, _+_, _-_, _^_, _≤_, _<_}
+use native.Mathlib.Omega.{arith}
+use lib.Dec.{eqb}
+use lib.ListN.{length, getD, take}
+use lib.Seq.{take-at}
+use borrow.Author.Tests.{eqb-true, eq-eqb, ne-eqb, not-false}
+use Rattle.coding.specs.Lists.{blank, padded, first}
+use Rattle.coding.specs.Word.{_⊕_}
+use Rattle.coding.specs.Matrix.{encode, Codeword, Inside, messageOf, isCodeword, IsMessage}
+use Rattle.coding.specs.Reduced.{reduce, rowsOf, freesFrom, reducedRows, Traced}
+use Rattle.coding.specs.Check.{check, column, checks, syndrome}
+use Rattle.coding.proofs.ListLaws.{map-same}
+use Rattle.coding.proofs.SearchLaws.{first-same, first-before, codeword-test, codeword-fails, message-hit}
+use Rattle.coding.proofs.PivotLaws.{ByPlace}
+use Rattle.coding.proofs.ReduceLaws.{whole, syndrome-codeword}
+use Rattle.coding.proofs.EliminateLaws.{check-count}
+use Rattle.coding.proofs.CompactLaws.{rows-count}
+use Rattle.coding.proofs.WidthLaws.{inside-wide, reduce-wide, column-zeros, rows-zeros, syndrome-zeros}
+use Rattle.coding.proofs.TraceLaws.{Trace, message-trace, trace-message, trace-is, message-back}
+use Rattle.linear.specs.Accepted.{Accepted}
+use Rattle.linear.specs.MessagesRead.{firstOther}
+use Rattle.linear.proofs.PackLaws.{checksFrom}
+
+module _ (n k : ℕ) (rows : List ℕ) (A : Accepted n k rows) where
+  -- the reduced rows have an entry for each place
+  places : length (reduce n rows) ≡ n
+  places = whole n rows (A .inside) .reduced .size
+
+  frees-are : length (freesFrom 0 (reduce n rows)) + k ≡ n
+  frees-are = omega (arith, check-count n rows (A .inside) (A .independent), A .count)
+
+  pub rows-are : length (reducedRows n rows) ≡ k
+  rows-are = omega (arith, rows-count 0 (reduce n rows), frees-are, places)
+
+  narrow : n ≤ 32
+  narrow = omega (arith, A .range .places)
+
+  -- 01, part 2: a word of n places is a codeword exactly when its syndrome is 0
+  pub codeword-syndrome : (w : ℕ) → w < 2 ^ n → (syndrome (padded 12 (checks n rows)) w ≡ 0) ↔ Codeword rows w
+  codeword-syndrome w h = rw (syndrome-zeros (checks n rows) (12 - length (checks n rows)) w) (syndrome-codeword n rows (A .inside) w h)
+
+  -- so the first word whose syndrome is not 0 is the first that is no codeword
+  pub other-is : (words : List ℕ) → Inside n words
+      → first (λ i. not (eqb (syndrome (padded 12 (checks n rows)) (getD words i 0)) 0)) (length words) ≡ firstOther rows words
+  other-is words f = first-same _ _ (length words) (λ i h. ap not (same (getD words i 0) (f i h)))
+    where
+      same : (w : ℕ) → w < 2 ^ n → eqb (syndrome (padded 12 (checks n rows)) w) 0 ≡ isCodeword rows w
+      same w h = go (isCodeword rows w) refl
+        where
+          go : (b : Bool) → isCodeword rows w ≡ b → eqb (syndrome (padded 12 (checks n rows)) w) 0 ≡ b
+          go true e = eq-eqb _ 0 (codeword-syndrome w h .1 (codeword-test rows w .0 e))
+          go false e = ne-eqb _ 0 (λ z. Rattle.coding.proofs.SearchLaws.true-false (codeword-test rows w .1 (codeword-syndrome w h .0 z)) e)
+
+  -- every codeword has exactly one message
+  pub one-is : (w : ℕ) → Codeword rows w → IsMessage rows w (messageOf rows w)
+  one-is w (u, h, e) =
+      let t : Trace rows u w = (h, sym e) in
+      rw (trace-message rows (A .independent) u w t) (trace-is rows (A .independent) u w t)
+
+  pub back-is : (u : ℕ) → u < 2 ^ k → messageOf rows (encode rows u) ≡ u
+  back-is u h = message-back rows (A .independent) u (rw (A .count) h)
+
+  -- the messages beside the reduced rows read each codeword back
+  pub messages-are : (M : List ℕ) → Traced rows M (reduce 32 rows) → (words : List ℕ) → firstOther rows words ≡ length words
+      → map (encode M) words ≡ map (messageOf rows) words
+  messages-are M t words none = map-same (encode M) (messageOf rows) words (λ i h. sym (same (getD words i 0) (is-codeword i h)))
+    where
+      is-codeword : (i : ℕ) → i < length words → Codeword rows (getD words i 0)
+      is-codeword i h =
+          codeword-test rows (getD words i 0) .0
+          (not-false _ (first-before (λ i. not (isCodeword rows (getD words i 0))) (length words) i (rw none h)))
+
+      same : (w : ℕ) → Codeword rows w → messageOf rows w ≡ encode M w
+      same w c =
+          trace-message rows (A .independent) (encode M w) w (message-trace 32 rows M (inside-wide n 32 narrow rows (A .inside)) t w c)
+
+  module _ (table : List ℕ) (is : table ≡ reduce 32 rows) where
+    -- the table is the reduced rows in n places, and zeros
+    wide : table ≡ reduce n rows ++ blank (32 - n)
+    wide = is ∙ reduce-wide n 32 narrow rows (A .inside)
+
+    pub table-size : length table ≡ 32
+    table-size = ap length is ∙ whole 32 rows (inside-wide n 32 narrow rows (A .inside)) .reduced .size
+
+    pub places-fit : n ≤ length table
+    places-fit = omega (arith, table-size, narrow)
+
+    table-take : take n table ≡ reduce n rows
+    table-take = ap (take n) wide ∙ take-at (reduce n rows) (blank (32 - n)) n places
+
+    pub checks-few : length (freesFrom 0 (take n table)) ≤ 12
+    checks-few = rw table-take (omega (arith, frees-are, A .range .checks))
+
+    pub checks-are : checksFrom table n 0 ≡ checks n rows
+    checks-are =
+        ap (λ (l : List ℕ). map (check table) (freesFrom 0 l)) table-take
+        ∙ map-same (check table) (check (reduce n rows)) (freesFrom 0 (reduce n rows)) (λ i h. same (getD (freesFrom 0 (reduce n rows)) i 0))
+      where
+        same : (q : ℕ) → check table q ≡ check (reduce n rows) q
+        same q = ap (λ (x : ℕ). 2 ^ q ⊕ x) (ap (λ (l : List ℕ). column l q) wide ∙ column-zeros (reduce n rows) (32 - n) q)
+
+    pub compact-is : rowsOf table ≡ reducedRows n rows
+    compact-is = ap rowsOf wide ∙ rows-zeros (reduce n rows) (32 - n)

@@ -1,0 +1,27 @@
+-- `linear::check::parity_checks`: a word is a codeword exactly when its syndrome by these rows is 0. Assumes nothing.
+use mathlib.Core.Path.{_≡_, sym, _∙_}
+use Rattle.coding.specs.Lists.{padded}
+use Rattle.coding.specs.Check.{checks}
+use Rattle.linear.proofs.AcceptLaws.{accepted-in}
+use Rattle.linear.proofs.TableLaws.{codeword-syndrome}
+use borrow.Author.Needs.{needs}
+use Rattle.linear.proofs.check.parity_checks.Statement.{statement}
+use Rattle.linear.proofs.check.parity_checks.Tie as tie
+
+code-of-requires : tie.Need-code-of-requires
+code-of-requires c κs = search needs
+
+returns : tie.Need-returns
+returns c =
+    let a = c .before .before .before .args in
+    let r = c .before .code-of in
+    record {
+      answer = r .ensures .answer;
+      rows-are = r .ensures .checks-are;
+      codewords = λ d.
+          let e : r .result .checks ≡ padded 12 (checks (a .n) (a .rows .now)) = rw d at (r .ensures .checks-are) in
+          rw e (codeword-syndrome (a .n) (a .k) (a .rows .now) (accepted-in (a .n) (a .k) (a .rows .now) (sym (r .ensures .answer) ∙ d)));
+    }
+
+pub parity-checks-spec : {M : Type 1} → statement M
+parity-checks-spec = tie.close (tie.spec code-of-requires returns)

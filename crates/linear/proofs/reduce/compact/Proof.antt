@@ -1,0 +1,94 @@
+-- `linear::reduce::compact`: the rows of the places below q are packed in front of zeros. Assumes nothing.
+use mathlib.Core.Path.{_≡_}
+use mathlib.Core.Logic.{⊎-elim}
+use mathlib.Core.List.{List}
+use Prim.Native.Nat.{ℕ, _≤_, _<_, _-_, _+_}
+use lib.ListN.{length, drop}
+use Rattle.coding.specs.Reduced.{rowsOf}
+use Rattle.coding.proofs.ListLaws.{Packed, packed-start}
+use Rattle.linear.proofs.PackLaws.{row-room, row-push, row-skip, row-end}
+use borrow.Author.Needs.{needs}
+use native.Mathlib.Omega.{arith}
+use Rattle.linear.proofs.reduce.compact.Statement.{statement}
+use Rattle.linear.proofs.reduce.compact.Tie as tie
+
+abbrev Inv-loop : tie.InvT-loop
+Inv-loop table rows₀ j₀ q₀ rows j q = (q ≤ length table) × (j ≤ 16) × Packed 16 rows j (rowsOf (drop q table)) (rowsOf table)
+
+abbrev μ-loop : tie.MeasureT-loop
+μ-loop table rows₀ j₀ q₀ rows j q = length table - q
+
+loop-holds : tie.Need-loop-holds Inv-loop μ-loop
+loop-holds c = (search needs, search needs, packed-start 16 (rowsOf (c .args .table .now)))
+
+mul-if1 : tie.Need-mul-if1 Inv-loop μ-loop
+mul-if1 c = search needs
+
+shared-slice-read-if1 : tie.Need-shared-slice-read-if1 Inv-loop μ-loop
+shared-slice-read-if1 c = search needs
+
+mul-rows : tie.Need-mul-rows Inv-loop μ-loop
+mul-rows c = search needs
+
+shared-slice-read-rows : tie.Need-shared-slice-read-rows Inv-loop μ-loop
+shared-slice-read-rows c = search needs
+
+mul-rows-2 : tie.Need-mul-rows-2 Inv-loop μ-loop
+mul-rows-2 c = search needs
+
+array-write-rows : tie.Need-array-write-rows Inv-loop μ-loop
+array-write-rows c =
+    let i = c .before .before .before .before in
+    let l = i .loop in
+    row-room (i .before .args .table .now) (l .q) (l .rows) (l .j) (l .inv .2) (i .before .pre) (c .before .before .before .loop-test .taken)
+    (c .before .if1 .taken)
+
+add-j : tie.Need-add-j Inv-loop μ-loop
+add-j c = search needs
+
+add-q : tie.Need-add-q Inv-loop μ-loop
+add-q c = search needs
+
+loop-less : tie.Need-loop-less Inv-loop μ-loop
+loop-less c = search needs
+
+loop-again : tie.Need-loop-again Inv-loop μ-loop
+loop-again c =
+    let i = c .before .before .before in
+    let s = i .before in
+    let l = i .loop in
+    let table = s .args .table .now in
+    let h = c .before .before .loop-test .taken in
+    let Next : List ℕ → ℕ → Type 0 = λ rows j. (j ≤ 16) × Packed 16 rows j (rowsOf (drop (l .q + 1) table)) (rowsOf table) in
+    let next : Next (c .if1 .rows) (c .if1 .j)
+    = ⊎-elim
+    (λ w.
+    let room = row-room table (l .q) (l .rows) (l .j) (l .inv .2) (s .pre) h (w .0 .taken) in
+    rw (w .2, w .3) (omega (arith, room), row-push table (l .q) (l .rows) (l .j) (l .inv .2) (s .pre) h (w .0 .taken)))
+    (λ w. rw (w .1, w .2) (l .inv .1, row-skip table (l .q) (l .rows) (l .j) (l .inv .2) (s .pre) h (w .0 .left)))
+    (c .if1 .came) in
+    (search needs, next .0, next .1)
+
+returns : tie.Need-returns Inv-loop μ-loop
+returns c =
+    let l = c .before .loop in
+    row-end (c .before .before .args .table .now) (l .q) (l .rows) (l .j) (l .inv .2) (c .loop-test .left) (l .inv .1)
+
+pub compact-spec : {M : Type 1} → statement M
+compact-spec =
+    tie.close
+    (tie.spec
+    Inv-loop
+    μ-loop
+    loop-holds
+    mul-if1
+    shared-slice-read-if1
+    mul-rows
+    shared-slice-read-rows
+    mul-rows-2
+    array-write-rows
+    add-j
+    add-q
+    loop-less
+    loop-again
+    returns)
