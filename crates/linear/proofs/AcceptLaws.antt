@@ -13,7 +13,7 @@ use borrow.Author.Tests.{leb-true, le-leb, eqb-true, eq-eqb, lt-ltb, ltb-true, n
 use Rattle.coding.specs.Matrix.{Codeword, Inside, Independent, Depends, isCodeword, firstDependent}
 use Rattle.coding.proofs.SearchLaws.{first-is, first-le, first-before}
 use Rattle.coding.proofs.DependLaws.{dependent-is, dependent-there, dependent-before, dependent-independent, none-independent, independent-none}
-use Rattle.linear.specs.Limits.{InRange, inRange, both}
+use Rattle.linear.specs.Limits.{maxPlaces, maxRows, maxChecks, InRange, inRange, both}
 use Rattle.linear.specs.Refusal.{unless, andThen}
 use Rattle.linear.specs.Accepted.{firstOutside, shapeAnswer, matrixAnswer, Accepted}
 use Rattle.linear.specs.declared.answer.Refusal.{Refusal}
@@ -45,25 +45,25 @@ both-true false b e = let z : _≡_ {A = ℕ} 0 1 = cc in absurd (omega arith)
 pub range-in : (n k : ℕ) → inRange n k ≡ true → InRange n k
 range-in n k e =
     let e1 = both-true (leb 2 n) _ e in
-    let e2 = both-true (leb n 28) _ (e1 .1) in
+    let e2 = both-true (leb n maxPlaces) _ (e1 .1) in
     let e3 = both-true (leb 1 k) _ (e2 .1) in
-    let e4 = both-true (leb k 16) _ (e3 .1) in
+    let e4 = both-true (leb k maxRows) _ (e3 .1) in
     let e5 = both-true (leb (k + 1) n) _ (e4 .1) in
     record {
-      places = (leb-true 2 n (e1 .0), leb-true n 28 (e2 .0));
-      rows = (leb-true 1 k (e3 .0), leb-true k 16 (e4 .0));
-      checks = (leb-true (k + 1) n (e5 .0), leb-true n (k + 12) (e5 .1));
+      places = (leb-true 2 n (e1 .0), leb-true n maxPlaces (e2 .0));
+      rows = (leb-true 1 k (e3 .0), leb-true k maxRows (e4 .0));
+      checks = (leb-true (k + 1) n (e5 .0), leb-true n (k + maxChecks) (e5 .1));
     }
 
 pub in-range : (n k : ℕ) → InRange n k → inRange n k ≡ true
 in-range n k r =
     simp (
       le-leb 2 n (r .places .0),
-      le-leb n 28 (r .places .1),
+      le-leb n maxPlaces (r .places .1),
       le-leb 1 k (r .rows .0),
-      le-leb k 16 (r .rows .1),
+      le-leb k maxRows (r .rows .1),
       le-leb (k + 1) n (r .checks .0),
-      le-leb n (k + 12) (r .checks .1),
+      le-leb n (k + maxChecks) (r .checks .1),
     )
 
 -- ---- cause 3, and 7: words of n places

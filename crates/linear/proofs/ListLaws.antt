@@ -9,7 +9,7 @@ use borrow.Author.Tests.{leb-true, eqb-true, eq-eqb, ne-eqb}
 use Rattle.coding.specs.Lists.{first, padded}
 use Rattle.coding.specs.Matrix.{Inside, encode, messageOf}
 use Rattle.coding.specs.Check.{checks, syndrome}
-use Rattle.linear.specs.Limits.{maxWords}
+use Rattle.linear.specs.Limits.{maxWords, maxChecks}
 use Rattle.linear.specs.Refusal.{unless, andThen, onDone}
 use Rattle.linear.specs.Accepted.{firstOutside, matrixAnswer}
 use Rattle.linear.specs.Encoded.{listAnswer, encodeAnswer, Encoded}
@@ -78,7 +78,7 @@ module _ (n k : ℕ) (rows words : List ℕ) (slots : ℕ) (m : matrixAnswer n k
   pub past : (last : Answer) → last ≡ andThen (matrixAnswer n k rows) (andThen (listAnswer words n slots) last)
   past last = goes (listAnswer words n slots) last l ∙ goes (matrixAnswer n k rows) (andThen (listAnswer words n slots) last) m
 
-  pub other-found : (cs : List ℕ) (bad : ℕ) → cs ≡ padded 12 (checks n rows)
+  pub other-found : (cs : List ℕ) (bad : ℕ) → cs ≡ padded maxChecks (checks n rows)
       → bad ≡ first (λ i. not (eqb (syndrome cs (getD words i 0)) 0)) (length words) → bad ≡ firstOther rows words
   other-found cs bad e f =
       f ∙ ap (λ (h : List ℕ). first (λ i. not (eqb (syndrome h (getD words i 0)) 0)) (length words)) e

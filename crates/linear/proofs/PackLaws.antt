@@ -12,54 +12,55 @@ use Rattle.coding.specs.Reduced.{rowsOf, freesFrom}
 use Rattle.coding.specs.Check.{check}
 use Rattle.coding.proofs.ListLaws.{Packed, packed-room, packed-push, packed-end}
 use Rattle.coding.proofs.CompactLaws.{frees-free, frees-pivot, rows-free, rows-pivot}
+use Rattle.linear.specs.Limits.{maxChecks, maxRows}
 
 -- ---- check rows of the places below n that are no pivot: j of them stand before place q
 
 abbrev pub checksFrom : List ℕ → ℕ → ℕ → List ℕ
 checksFrom table n q = map (check table) (freesFrom q (drop q (take n table)))
 
-module _ (table : List ℕ) (n q : ℕ) (wide : n ≤ length table) (checks : List ℕ) (j : ℕ) (P : Packed 12 checks j (checksFrom table n q) (checksFrom table n 0)) where
+module _ (table : List ℕ) (n q : ℕ) (wide : n ≤ length table) (checks : List ℕ) (j : ℕ) (P : Packed maxChecks checks j (checksFrom table n q) (checksFrom table n 0)) where
   size : length (take n table) ≡ n
   size = length-take-le n table wide
 
-  module _ (few : length (freesFrom 0 (take n table)) ≤ 12) (h : q < n) where
-    few-rows : length (checksFrom table n 0) ≤ 12
+  module _ (few : length (freesFrom 0 (take n table)) ≤ maxChecks) (h : q < n) where
+    few-rows : length (checksFrom table n 0) ≤ maxChecks
     few-rows = rw (length-map (freesFrom 0 (take n table)) (check table)) few
 
     free-next : getD table q 0 ≡ 0 → checksFrom table n q ≡ check table q ∷ checksFrom table n (q + 1)
     free-next e = ap (map (check table)) (frees-free (take n table) q (rw size h) (getD-take n table q 0 h ∙ e))
 
-    pub check-room : getD table q 0 ≡ 0 → j < 12
-    check-room e = packed-room 12 checks j _ _ (checksFrom table n 0) (rw (free-next e) at P) few-rows
+    pub check-room : getD table q 0 ≡ 0 → j < maxChecks
+    check-room e = packed-room maxChecks checks j _ _ (checksFrom table n 0) (rw (free-next e) at P) few-rows
 
-    pub check-push : getD table q 0 ≡ 0 → (v : ℕ) → v ≡ check table q → Packed 12 (set checks j v) (j + 1) (checksFrom table n (q + 1)) (checksFrom table n 0)
-    check-push e v k = rw k (packed-push 12 checks j (check table q) _ (checksFrom table n 0) (rw (free-next e) at P) few-rows)
+    pub check-push : getD table q 0 ≡ 0 → (v : ℕ) → v ≡ check table q → Packed maxChecks (set checks j v) (j + 1) (checksFrom table n (q + 1)) (checksFrom table n 0)
+    check-push e v k = rw k (packed-push maxChecks checks j (check table q) _ (checksFrom table n 0) (rw (free-next e) at P) few-rows)
 
-    pub check-skip : getD table q 0 ≢ 0 → Packed 12 checks j (checksFrom table n (q + 1)) (checksFrom table n 0)
+    pub check-skip : getD table q 0 ≢ 0 → Packed maxChecks checks j (checksFrom table n (q + 1)) (checksFrom table n 0)
     check-skip ne =
         let e : checksFrom table n q ≡ checksFrom table n (q + 1)
         = ap (map (check table)) (frees-pivot (take n table) q (rw size h) (λ z. ne (sym (getD-take n table q 0 h) ∙ z))) in
         rw e at P
 
-  pub check-end : n ≤ q → j ≤ 12 → checks ≡ padded 12 (checksFrom table n 0)
+  pub check-end : n ≤ q → j ≤ maxChecks → checks ≡ padded maxChecks (checksFrom table n 0)
   check-end h k =
       let e : checksFrom table n q ≡ [] = ap (λ (l : List ℕ). map (check table) (freesFrom q l)) (drop-of-length-le (take n table) {i = q} (rw size h)) in
-      packed-end 12 checks j (checksFrom table n 0) (rw e at P) k
+      packed-end maxChecks checks j (checksFrom table n 0) (rw e at P) k
 
 -- ---- the rows themselves: j of them stand before place q
 
-module _ (table : List ℕ) (q : ℕ) (rows : List ℕ) (j : ℕ) (P : Packed 16 rows j (rowsOf (drop q table)) (rowsOf table)) where
-  module _ (few : length (rowsOf table) ≤ 16) (h : q < length table) where
-    pub row-room : getD table q 0 ≢ 0 → j < 16
-    row-room ne = packed-room 16 rows j _ _ (rowsOf table) (rw (rows-pivot table q h ne) at P) few
+module _ (table : List ℕ) (q : ℕ) (rows : List ℕ) (j : ℕ) (P : Packed maxRows rows j (rowsOf (drop q table)) (rowsOf table)) where
+  module _ (few : length (rowsOf table) ≤ maxRows) (h : q < length table) where
+    pub row-room : getD table q 0 ≢ 0 → j < maxRows
+    row-room ne = packed-room maxRows rows j _ _ (rowsOf table) (rw (rows-pivot table q h ne) at P) few
 
-    pub row-push : getD table q 0 ≢ 0 → Packed 16 (set rows j (getD table q 0)) (j + 1) (rowsOf (drop (q + 1) table)) (rowsOf table)
-    row-push ne = packed-push 16 rows j (getD table q 0) _ (rowsOf table) (rw (rows-pivot table q h ne) at P) few
+    pub row-push : getD table q 0 ≢ 0 → Packed maxRows (set rows j (getD table q 0)) (j + 1) (rowsOf (drop (q + 1) table)) (rowsOf table)
+    row-push ne = packed-push maxRows rows j (getD table q 0) _ (rowsOf table) (rw (rows-pivot table q h ne) at P) few
 
-    pub row-skip : getD table q 0 ≡ 0 → Packed 16 rows j (rowsOf (drop (q + 1) table)) (rowsOf table)
+    pub row-skip : getD table q 0 ≡ 0 → Packed maxRows rows j (rowsOf (drop (q + 1) table)) (rowsOf table)
     row-skip e = rw (rows-free table q h e) at P
 
-  pub row-end : length table ≤ q → j ≤ 16 → rows ≡ padded 16 (rowsOf table)
+  pub row-end : length table ≤ q → j ≤ maxRows → rows ≡ padded maxRows (rowsOf table)
   row-end h k =
       let e : rowsOf (drop q table) ≡ [] = ap rowsOf (drop-of-length-le table h) in
-      packed-end 16 rows j (rowsOf table) (rw e at P) k
+      packed-end maxRows rows j (rowsOf table) (rw e at P) k

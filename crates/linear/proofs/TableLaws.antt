@@ -23,6 +23,7 @@ use Rattle.coding.proofs.EliminateLaws.{check-count}
 use Rattle.coding.proofs.CompactLaws.{rows-count}
 use Rattle.coding.proofs.WidthLaws.{inside-wide, reduce-wide, column-zeros, rows-zeros, syndrome-zeros}
 use Rattle.coding.proofs.TraceLaws.{Trace, message-trace, trace-message, trace-is, message-back}
+use Rattle.linear.specs.Limits.{maxChecks}
 use Rattle.linear.specs.Accepted.{Accepted}
 use Rattle.linear.specs.MessagesRead.{firstOther}
 use Rattle.linear.proofs.PackLaws.{checksFrom}
@@ -42,18 +43,18 @@ module _ (n k : ℕ) (rows : List ℕ) (A : Accepted n k rows) where
   narrow = omega (arith, A .range .places)
 
   -- 01, part 2: a word of n places is a codeword exactly when its syndrome is 0
-  pub codeword-syndrome : (w : ℕ) → w < 2 ^ n → (syndrome (padded 12 (checks n rows)) w ≡ 0) ↔ Codeword rows w
-  codeword-syndrome w h = rw (syndrome-zeros (checks n rows) (12 - length (checks n rows)) w) (syndrome-codeword n rows (A .inside) w h)
+  pub codeword-syndrome : (w : ℕ) → w < 2 ^ n → (syndrome (padded maxChecks (checks n rows)) w ≡ 0) ↔ Codeword rows w
+  codeword-syndrome w h = rw (syndrome-zeros (checks n rows) (maxChecks - length (checks n rows)) w) (syndrome-codeword n rows (A .inside) w h)
 
   -- so the first word whose syndrome is not 0 is the first that is no codeword
   pub other-is : (words : List ℕ) → Inside n words
-      → first (λ i. not (eqb (syndrome (padded 12 (checks n rows)) (getD words i 0)) 0)) (length words) ≡ firstOther rows words
+      → first (λ i. not (eqb (syndrome (padded maxChecks (checks n rows)) (getD words i 0)) 0)) (length words) ≡ firstOther rows words
   other-is words f = first-same _ _ (length words) (λ i h. ap not (same (getD words i 0) (f i h)))
     where
-      same : (w : ℕ) → w < 2 ^ n → eqb (syndrome (padded 12 (checks n rows)) w) 0 ≡ isCodeword rows w
+      same : (w : ℕ) → w < 2 ^ n → eqb (syndrome (padded maxChecks (checks n rows)) w) 0 ≡ isCodeword rows w
       same w h = go (isCodeword rows w) refl
         where
-          go : (b : Bool) → isCodeword rows w ≡ b → eqb (syndrome (padded 12 (checks n rows)) w) 0 ≡ b
+          go : (b : Bool) → isCodeword rows w ≡ b → eqb (syndrome (padded maxChecks (checks n rows)) w) 0 ≡ b
           go true e = eq-eqb _ 0 (codeword-syndrome w h .1 (codeword-test rows w .0 e))
           go false e = ne-eqb _ 0 (λ z. Rattle.coding.proofs.SearchLaws.true-false (codeword-test rows w .1 (codeword-syndrome w h .0 z)) e)
 
@@ -94,7 +95,7 @@ module _ (n k : ℕ) (rows : List ℕ) (A : Accepted n k rows) where
     table-take : take n table ≡ reduce n rows
     table-take = ap (take n) wide ∙ take-at (reduce n rows) (blank (32 - n)) n places
 
-    pub checks-few : length (freesFrom 0 (take n table)) ≤ 12
+    pub checks-few : length (freesFrom 0 (take n table)) ≤ maxChecks
     checks-few = rw table-take (omega (arith, frees-are, A .range .checks))
 
     pub checks-are : checksFrom table n 0 ≡ checks n rows

@@ -7,21 +7,22 @@ use Rattle.coding.specs.Lists.{blank, padded}
 use Rattle.coding.specs.Matrix.{Codeword}
 use Rattle.coding.specs.Reduced.{reduce, Traced}
 use Rattle.coding.specs.Check.{checks, syndrome}
+use Rattle.linear.specs.Limits.{maxChecks}
 use Rattle.linear.specs.Refusal.{ifDone}
 use Rattle.linear.specs.Accepted.{matrixAnswer}
 use Rattle.linear.specs.declared.answer.Answer.the-variants.{Done}
 use Rattle.linear.specs.declared.check.Checks.{Checks}
 use Rattle.linear.specs.declared.check.Code.{Code}
 
--- causes 1 to 4; the n - k check rows and 0 up to 12 entries, or 0 at every entry; and beside the reduced rows their messages
+-- causes 1 to 4; the n - k check rows and 0 after them, or 0 at every entry; and beside the reduced rows their messages
 pub record CodeOf (n k : ℕ) (rows : List ℕ) (r : Code) : Type 0 where
   pub answer : r .answer ≡ matrixAnswer n k rows
-  pub checks-are : r .checks ≡ ifDone (r .answer) (padded 12 (checks n rows)) (blank 12)
+  pub checks-are : r .checks ≡ ifDone (r .answer) (padded maxChecks (checks n rows)) (blank maxChecks)
   pub traced : r .answer ≡ Done → Traced rows (r .messages) (reduce 32 rows)
 
--- causes 1 to 4; the n - k check rows and 0 up to 12 entries, or 0 at every entry; and for an accepted matrix a word of n places is
+-- causes 1 to 4; the n - k check rows and 0 after them, or 0 at every entry; and for an accepted matrix a word of n places is
 -- a codeword exactly when its syndrome is 0
 pub record ParityChecks (n k : ℕ) (rows : List ℕ) (r : Checks) : Type 0 where
   pub answer : r .answer ≡ matrixAnswer n k rows
-  pub rows-are : r .rows ≡ ifDone (r .answer) (padded 12 (checks n rows)) (blank 12)
+  pub rows-are : r .rows ≡ ifDone (r .answer) (padded maxChecks (checks n rows)) (blank maxChecks)
   pub codewords : r .answer ≡ Done → (w : ℕ) → w < 2 ^ n → (syndrome (r .rows) w ≡ 0) ↔ Codeword rows w

@@ -3,14 +3,23 @@ use mathlib.Core.Bool.{Bool, true, false}
 use Prim.Native.Nat.{ℕ, _+_, _≤_}
 use lib.Dec.{leb}
 
+abbrev pub maxPlaces : ℕ
+maxPlaces = 28
+
+abbrev pub maxRows : ℕ
+maxRows = 16
+
+abbrev pub maxChecks : ℕ
+maxChecks = 12
+
 abbrev pub maxWords : ℕ
 maxWords = 512
 
 -- n is 2 to 28, k is 1 to 16, n - k is 1 to 12
 pub record InRange (n k : ℕ) : Type 0 where
-  pub places : (2 ≤ n) × (n ≤ 28)
-  pub rows : (1 ≤ k) × (k ≤ 16)
-  pub checks : (k + 1 ≤ n) × (n ≤ k + 12)
+  pub places : (2 ≤ n) × (n ≤ maxPlaces)
+  pub rows : (1 ≤ k) × (k ≤ maxRows)
+  pub checks : (k + 1 ≤ n) × (n ≤ k + maxChecks)
 
 abbrev pub both : Bool → Bool → Bool
 both true b = b
@@ -18,4 +27,4 @@ both false b = false
 
 -- the same as a test
 abbrev pub inRange : ℕ → ℕ → Bool
-inRange n k = both (leb 2 n) (both (leb n 28) (both (leb 1 k) (both (leb k 16) (both (leb (k + 1) n) (leb n (k + 12))))))
+inRange n k = both (leb 2 n) (both (leb n maxPlaces) (both (leb 1 k) (both (leb k maxRows) (both (leb (k + 1) n) (leb n (k + maxChecks))))))

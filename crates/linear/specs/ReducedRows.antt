@@ -5,16 +5,17 @@ use Prim.Native.Nat.{ℕ}
 use lib.ListN.{length}
 use Rattle.coding.specs.Lists.{blank, padded}
 use Rattle.coding.specs.Reduced.{ReducedForm, reducedRows, pivots}
+use Rattle.linear.specs.Limits.{maxRows}
 use Rattle.linear.specs.Refusal.{ifDone}
 use Rattle.linear.specs.Accepted.{matrixAnswer}
 use Rattle.linear.specs.declared.answer.Answer.the-variants.{Done}
 use Rattle.linear.specs.declared.reduce.Reduced.{Reduced}
 
--- causes 1 to 4; the k reduced rows and 0 up to 16 entries, or 0 at every entry; and for an accepted matrix these rows are its
+-- causes 1 to 4; the k reduced rows and 0 after them, or 0 at every entry; and for an accepted matrix these rows are its
 -- reduced row echelon form, the only one
 pub record ReducedRows (n k : ℕ) (rows : List ℕ) (r : Reduced) : Type 0 where
   pub answer : r .answer ≡ matrixAnswer n k rows
-  pub rows-are : r .rows ≡ ifDone (r .answer) (padded 16 (reducedRows n rows)) (blank 16)
+  pub rows-are : r .rows ≡ ifDone (r .answer) (padded maxRows (reducedRows n rows)) (blank maxRows)
   pub count : r .answer ≡ Done → length (reducedRows n rows) ≡ k
   pub form : r .answer ≡ Done → ReducedForm rows (reducedRows n rows) (pivots n rows)
   pub only : r .answer ≡ Done → (A P : List ℕ) → ReducedForm rows A P → (A ≡ reducedRows n rows) × (P ≡ pivots n rows)

@@ -24,13 +24,13 @@ pub fn in_range(n: u32, k: u32) -> bool
     if k < 1 {
         return false;
     }
-    if MAX_ROWS < k {
+    if (MAX_ROWS as u32) < k {
         return false;
     }
     if n < k + 1 {
         return false;
     }
-    n <= k + MAX_CHECKS
+    n <= k + MAX_CHECKS as u32
 }
 
 // The first word with a one at place n or beyond, or the number of words where there is none.

@@ -1,5 +1,6 @@
 // Part 2: parity-check rows and syndromes.
 use crate::answer::Answer;
+use crate::limits::{MAX_CHECKS, WIDTH};
 use crate::reduce::reduce;
 use crate::word::parity;
 use crate::word::place;
@@ -10,12 +11,13 @@ ghost use lib.ListN.{length, take};
 ghost use Rattle.coding.specs.Lists.{padded};
 ghost use Rattle.coding.specs.Reduced.{freesFrom};
 ghost use Rattle.coding.specs.Check.{column, check, syndrome};
+ghost use Rattle.linear.specs.Limits.{maxChecks};
 ghost use Rattle.linear.specs.Checks.{CodeOf, ParityChecks};
 
 // The answer to a matrix, and where it is accepted its n - k check rows; 0 at every other entry.
 pub struct Checks {
     pub answer: Answer,
-    pub rows: [u32; 12],
+    pub rows: [u32; MAX_CHECKS],
 }
 
 fn parities(checks: &[u32], w: u32) -> u32
@@ -32,7 +34,7 @@ fn parities(checks: &[u32], w: u32) -> u32
 }
 
 // Bit j is the parity of the word's places where check row j has a 1.
-pub fn syndrome(checks: &[u32; 12], w: u32) -> u32
+pub fn syndrome(checks: &[u32; MAX_CHECKS], w: u32) -> u32
     ensures { λ r. ⌜ r ≡ syndrome (now (checks .entry)) w ⌝ }
 {
     parities(checks, w)
@@ -53,11 +55,11 @@ fn column(rows: &[u32], q: u32) -> u32
 }
 
 // The check rows of the places below n that are no pivot, in rising order.
-fn check_rows(table: &[u32], n: usize) -> [u32; 12]
-    requires { ⌜ (length (now table) ≡ 32) × (n ≤ 32) × (length (freesFrom 0 (take n (now table))) ≤ 12) ⌝ }
-    ensures { λ r. ⌜ r ≡ padded 12 (map (check (now (table .entry))) (freesFrom 0 (take n (now (table .entry))))) ⌝ }
+fn check_rows(table: &[u32], n: usize) -> [u32; MAX_CHECKS]
+    requires { ⌜ (length (now table) ≡ 32) × (n ≤ 32) × (length (freesFrom 0 (take n (now table))) ≤ maxChecks) ⌝ }
+    ensures { λ r. ⌜ r ≡ padded maxChecks (map (check (now (table .entry))) (freesFrom 0 (take n (now (table .entry))))) ⌝ }
 {
-    let mut checks = [0u32; 12];
+    let mut checks = [0u32; MAX_CHECKS];
     let mut j: usize = 0;
     let mut q: usize = 0;
     while q < n {
@@ -74,8 +76,8 @@ fn check_rows(table: &[u32], n: usize) -> [u32; 12]
 // that pivot as its codeword; 0 at every other entry.
 pub(crate) struct Code {
     pub(crate) answer: Answer,
-    pub(crate) checks: [u32; 12],
-    pub(crate) messages: [u32; 32],
+    pub(crate) checks: [u32; MAX_CHECKS],
+    pub(crate) messages: [u32; WIDTH],
 }
 
 pub(crate) fn code_of(n: u32, k: u32, rows: &[u32]) -> Code
@@ -86,8 +88,8 @@ pub(crate) fn code_of(n: u32, k: u32, rows: &[u32]) -> Code
     let Answer::Done = answer else {
         return Code {
             answer,
-            checks: [0u32; 12],
-            messages: [0u32; 32],
+            checks: [0u32; MAX_CHECKS],
+            messages: [0u32; WIDTH],
         };
     };
     let table = r.table;

@@ -5,6 +5,7 @@ use crate::check::code_of;
 use crate::check::syndrome;
 use crate::encode::list_cause;
 use crate::encode::row_sums;
+use crate::limits::MAX_CHECKS;
 ghost use mathlib.Core.Path.{_≡_};
 ghost use mathlib.Core.Bool.{not};
 ghost use lib.Dec.{eqb};
@@ -14,7 +15,7 @@ ghost use Rattle.coding.specs.Check.{syndrome};
 ghost use Rattle.linear.specs.MessagesRead.{MessagesRead};
 
 // The first word whose syndrome is not 0, or the number of words where there is none.
-fn first_other(checks: &[u32; 12], words: &[u32]) -> usize
+fn first_other(checks: &[u32; MAX_CHECKS], words: &[u32]) -> usize
     ensures { λ r. ⌜ r ≡ first (λ i. not (eqb (syndrome (now (checks .entry)) (getD (now (words .entry)) i 0)) 0)) (length (now (words .entry))) ⌝ }
 {
     let mut i: usize = 0;

@@ -2,6 +2,7 @@
 use crate::accept::shape;
 use crate::answer::Answer;
 use crate::answer::Refusal;
+use crate::limits::{MAX_ROWS, WIDTH};
 use crate::word::selected;
 ghost use mathlib.Core.Path.{_≡_};
 ghost use Prim.Native.Nat.{ℕ, _<_, _≤_, _^_};
@@ -9,23 +10,24 @@ ghost use lib.ListN.{length, getD, set};
 ghost use Rattle.coding.specs.Matrix.{Inside};
 ghost use Rattle.coding.specs.Lists.{padded};
 ghost use Rattle.coding.specs.Reduced.{wipes, rowsOf};
+ghost use Rattle.linear.specs.Limits.{maxRows};
 ghost use Rattle.linear.specs.Eliminated.{Eliminated, ReductionOf};
 ghost use Rattle.linear.specs.ReducedRows.{ReducedRows};
 
 // Reduced rows listed by place: entry p is the row whose pivot is p, or 0. Beside each stands a message that has it as its codeword.
 pub(crate) struct Elimination {
     pub(crate) rank: usize,
-    pub(crate) table: [u32; 32],
-    pub(crate) messages: [u32; 32],
+    pub(crate) table: [u32; WIDTH],
+    pub(crate) messages: [u32; WIDTH],
 }
 
 // Adds x to the entries beside the rows that have a one at place q, and puts x at q.
-fn put(rows: &[u32; 32], entries: &mut [u32; 32], q: usize, x: u32)
+fn put(rows: &[u32; WIDTH], entries: &mut [u32; WIDTH], q: usize, x: u32)
     requires { ⌜ (q < 32) × (length (now rows) ≡ 32) × (length (now entries) ≡ 32) ⌝ }
     ensures { λ _. ⌜ now (entries .exit) ≡ set (wipes q (now (rows .entry)) (now (entries .entry)) x) q x ⌝ }
 {
     let mut p: usize = 0;
-    while p < 32 {
+    while p < WIDTH {
         entries[p] = entries[p] ^ selected(x, rows[p] >> q);
         p += 1;
     }
@@ -39,8 +41,8 @@ pub(crate) fn eliminate(rows: &[u32]) -> Elimination
     requires { ⌜ Inside 32 (now rows) ⌝ }
     ensures { λ r. ⌜ Eliminated (now (rows .entry)) r ⌝ }
 {
-    let mut table = [0u32; 32];
-    let mut messages = [0u32; 32];
+    let mut table = [0u32; WIDTH];
+    let mut messages = [0u32; WIDTH];
     let mut i: usize = 0;
     'rows: while i < rows.len() {
         let mut x = rows[i];
@@ -50,7 +52,7 @@ pub(crate) fn eliminate(rows: &[u32]) -> Elimination
             if x == 0 {
                 break 'rows;
             }
-            if p == 32 {
+            if p == WIDTH {
                 break;
             }
             let b = x >> p;
@@ -74,8 +76,8 @@ pub(crate) fn eliminate(rows: &[u32]) -> Elimination
 // The answer to a matrix, and where it is accepted what its elimination gave.
 pub(crate) struct Reduction {
     pub(crate) answer: Answer,
-    pub(crate) table: [u32; 32],
-    pub(crate) messages: [u32; 32],
+    pub(crate) table: [u32; WIDTH],
+    pub(crate) messages: [u32; WIDTH],
 }
 
 // Causes 1 to 4, and the elimination that tells the fourth.
@@ -86,8 +88,8 @@ pub(crate) fn reduce(n: u32, k: u32, rows: &[u32]) -> Reduction
     let Answer::Done = a else {
         return Reduction {
             answer: a,
-            table: [0u32; 32],
-            messages: [0u32; 32],
+            table: [0u32; WIDTH],
+            messages: [0u32; WIDTH],
         };
     };
     let e = eliminate(rows);
@@ -95,8 +97,8 @@ pub(crate) fn reduce(n: u32, k: u32, rows: &[u32]) -> Reduction
     if rank != rows.len() {
         return Reduction {
             answer: Answer::Refused(Refusal::Dependent(rank)),
-            table: [0u32; 32],
-            messages: [0u32; 32],
+            table: [0u32; WIDTH],
+            messages: [0u32; WIDTH],
         };
     }
     let table = e.table;
@@ -111,15 +113,15 @@ pub(crate) fn reduce(n: u32, k: u32, rows: &[u32]) -> Reduction
 // The answer to a matrix, and where it is accepted its k reduced rows; 0 at every other entry.
 pub struct Reduced {
     pub answer: Answer,
-    pub rows: [u32; 16],
+    pub rows: [u32; MAX_ROWS],
 }
 
 // The rows of a table by place, without the places that are no pivot.
-fn compact(table: &[u32]) -> [u32; 16]
-    requires { ⌜ length (rowsOf (now table)) ≤ 16 ⌝ }
-    ensures { λ r. ⌜ r ≡ padded 16 (rowsOf (now (table .entry))) ⌝ }
+fn compact(table: &[u32]) -> [u32; MAX_ROWS]
+    requires { ⌜ length (rowsOf (now table)) ≤ maxRows ⌝ }
+    ensures { λ r. ⌜ r ≡ padded maxRows (rowsOf (now (table .entry))) ⌝ }
 {
-    let mut rows = [0u32; 16];
+    let mut rows = [0u32; MAX_ROWS];
     let mut j: usize = 0;
     let mut q: usize = 0;
     while q < table.len() {
@@ -141,7 +143,7 @@ pub fn reduced_rows(n: u32, k: u32, rows: &[u32]) -> Reduced
     let Answer::Done = a else {
         return Reduced {
             answer: a,
-            rows: [0u32; 16],
+            rows: [0u32; MAX_ROWS],
         };
     };
     let table = r.table;

@@ -13,6 +13,9 @@ returns-2 c = simp (le-leb _ _ (c .before .if1 .left), lt-leb _ _ (c .if2 .taken
 returns-3 : tie.Need-returns-3
 returns-3 c = simp (le-leb _ _ (c .before .before .if1 .left), le-leb _ _ (c .before .if2 .left), lt-leb _ _ (c .if3 .taken))
 
+cast-if4 : tie.Need-cast-if4
+cast-if4 c = search needs
+
 returns-4 : tie.Need-returns-4
 returns-4 c =
     simp (
@@ -35,6 +38,9 @@ returns-5 c =
       lt-leb _ _ (c .if5 .taken),
     )
 
+cast-result : tie.Need-cast-result
+cast-result c = search needs
+
 add-result : tie.Need-add-result
 add-result c = search needs
 
@@ -51,4 +57,14 @@ returns-6 c =
 pub in-range-spec : {M : Type 1} → statement M
 in-range-spec =
     tie.close
-    (tie.spec returns returns-2 returns-3 returns-4 add-if5 returns-5 add-result returns-6)
+    (tie.spec
+    returns
+    returns-2
+    returns-3
+    cast-if4
+    returns-4
+    add-if5
+    returns-5
+    cast-result
+    add-result
+    returns-6)

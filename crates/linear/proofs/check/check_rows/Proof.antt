@@ -8,6 +8,7 @@ use Rattle.coding.specs.Word.{_⊕_}
 use Rattle.coding.specs.Check.{column, check}
 use Rattle.coding.proofs.ListLaws.{Packed, packed-start}
 use Rattle.coding.proofs.MachineLaws.{shl-one}
+use Rattle.linear.specs.Limits.{maxChecks}
 use Rattle.linear.proofs.PackLaws.{checksFrom, check-room, check-push, check-skip, check-end}
 use borrow.Author.Needs.{needs}
 use native.Mathlib.Omega.{arith}
@@ -15,13 +16,13 @@ use Rattle.linear.proofs.check.check_rows.Statement.{statement}
 use Rattle.linear.proofs.check.check_rows.Tie as tie
 
 abbrev Inv-loop : tie.InvT-loop
-Inv-loop table n checks₀ j₀ q₀ checks j q = (q ≤ n) × (j ≤ 12) × Packed 12 checks j (checksFrom table n q) (checksFrom table n 0)
+Inv-loop table n checks₀ j₀ q₀ checks j q = (q ≤ n) × (j ≤ maxChecks) × Packed maxChecks checks j (checksFrom table n q) (checksFrom table n 0)
 
 abbrev μ-loop : tie.MeasureT-loop
 μ-loop table n checks₀ j₀ q₀ checks j q = n - q
 
 loop-holds : tie.Need-loop-holds Inv-loop μ-loop
-loop-holds c = (search needs, search needs, packed-start 12 (checksFrom (c .before .args .table .now) (c .before .args .n) 0))
+loop-holds c = (search needs, search needs, packed-start maxChecks (checksFrom (c .before .args .table .now) (c .before .args .n) 0))
 
 mul-if1 : tie.Need-mul-if1 Inv-loop μ-loop
 mul-if1 c = search needs
@@ -69,7 +70,7 @@ loop-again c =
     let table = s .args .table .now in
     let wide : s .args .n ≤ length (s .args .table .now) = omega arith in
     let h = c .before .before .loop-test .taken in
-    let Next : List ℕ → ℕ → Type 0 = λ checks j. (j ≤ 12) × Packed 12 checks j (checksFrom table (s .args .n) (l .q + 1)) (checksFrom table (s .args .n) 0) in
+    let Next : List ℕ → ℕ → Type 0 = λ checks j. (j ≤ maxChecks) × Packed maxChecks checks j (checksFrom table (s .args .n) (l .q + 1)) (checksFrom table (s .args .n) 0) in
     let next : Next (c .if1 .checks) (c .if1 .j)
     = ⊎-elim
     (λ w.

@@ -2,6 +2,7 @@
 use mathlib.Core.Path.{_≡_, refl, sym, ap, _∙_}
 use Rattle.coding.specs.Lists.{padded}
 use Rattle.coding.specs.Reduced.{Traced}
+use Rattle.linear.specs.Limits.{maxChecks}
 use Rattle.linear.specs.Accepted.{Accepted}
 use Rattle.linear.proofs.AcceptLaws.{accepted-in, refused-done}
 use Rattle.linear.proofs.TableLaws.{table-size, checks-few, checks-are}
@@ -49,7 +50,7 @@ returns-2 c =
     let A : Accepted (a .n) (a .k) (a .rows .now) = accepted-in (a .n) (a .k) (a .rows .now) (sym (R .ensures .answer) ∙ d) in
     record {
       answer = sym d ∙ R .ensures .answer;
-      checks-are = q .check-rows .ensures ∙ ap (padded 12) (checks-are (a .n) (a .k) (a .rows .now) A (R .result .table) (R .ensures .table d));
+      checks-are = q .check-rows .ensures ∙ ap (padded maxChecks) (checks-are (a .n) (a .k) (a .rows .now) A (R .result .table) (R .ensures .table d));
       traced = λ _. rw (R .ensures .table d) at (R .ensures .traced d);
     }
 

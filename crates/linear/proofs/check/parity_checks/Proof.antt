@@ -2,6 +2,7 @@
 use mathlib.Core.Path.{_≡_, sym, _∙_}
 use Rattle.coding.specs.Lists.{padded}
 use Rattle.coding.specs.Check.{checks}
+use Rattle.linear.specs.Limits.{maxChecks}
 use Rattle.linear.proofs.AcceptLaws.{accepted-in}
 use Rattle.linear.proofs.TableLaws.{codeword-syndrome}
 use borrow.Author.Needs.{needs}
@@ -19,7 +20,7 @@ returns c =
       answer = r .ensures .answer;
       rows-are = r .ensures .checks-are;
       codewords = λ d.
-          let e : r .result .checks ≡ padded 12 (checks (a .n) (a .rows .now)) = rw d at (r .ensures .checks-are) in
+          let e : r .result .checks ≡ padded maxChecks (checks (a .n) (a .rows .now)) = rw d at (r .ensures .checks-are) in
           rw e (codeword-syndrome (a .n) (a .k) (a .rows .now) (accepted-in (a .n) (a .k) (a .rows .now) (sym (r .ensures .answer) ∙ d)));
     }
 

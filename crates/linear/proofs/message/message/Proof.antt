@@ -6,6 +6,7 @@ use lib.ListN.{length, drop}
 use Rattle.coding.specs.Lists.{padded}
 use Rattle.coding.specs.Matrix.{messageOf}
 use Rattle.coding.specs.Check.{checks}
+use Rattle.linear.specs.Limits.{maxChecks}
 use Rattle.linear.specs.Accepted.{matrixAnswer}
 use Rattle.linear.specs.Encoded.{listAnswer}
 use Rattle.linear.specs.MessagesRead.{firstOther}
@@ -66,7 +67,7 @@ returns-3 c =
     let d = t .enum-told .given .1 in
     let m = sym (C .ensures .answer) ∙ d in
     let l = sym (g .before .before .list-cause .ensures) ∙ g .enum-told3 .given .1 in
-    let cs : C .result .checks ≡ padded 12 (checks (a .n) (a .rows .now)) = rw d at (C .ensures .checks-are) in
+    let cs : C .result .checks ≡ padded maxChecks (checks (a .n) (a .rows .now)) = rw d at (C .ensures .checks-are) in
     let is : f .first-other .result ≡ firstOther (a .rows .now) (a .words .now)
     = other-found (a .n) (a .k) (a .rows .now) (a .words .now) (length (a .out .now)) m l (C .result .checks) (f .first-other .result) cs
     (f .first-other .ensures) in
@@ -98,7 +99,7 @@ returns-4 c =
     let d = t .enum-told .given .1 in
     let m = sym (C .ensures .answer) ∙ d in
     let l = sym (g .before .before .list-cause .ensures) ∙ g .enum-told3 .given .1 in
-    let cs : C .result .checks ≡ padded 12 (checks (a .n) (a .rows .now)) = rw d at (C .ensures .checks-are) in
+    let cs : C .result .checks ≡ padded maxChecks (checks (a .n) (a .rows .now)) = rw d at (C .ensures .checks-are) in
     let is : f .first-other .result ≡ firstOther (a .rows .now) (a .words .now)
     = other-found (a .n) (a .k) (a .rows .now) (a .words .now) (length (a .out .now)) m l (C .result .checks) (f .first-other .result) cs
     (f .first-other .ensures) in

@@ -6,6 +6,7 @@ use Prim.Native.Nat.{ℕ, _≤_, _<_, _-_, _+_}
 use lib.ListN.{length, drop}
 use Rattle.coding.specs.Reduced.{rowsOf}
 use Rattle.coding.proofs.ListLaws.{Packed, packed-start}
+use Rattle.linear.specs.Limits.{maxRows}
 use Rattle.linear.proofs.PackLaws.{row-room, row-push, row-skip, row-end}
 use borrow.Author.Needs.{needs}
 use native.Mathlib.Omega.{arith}
@@ -13,13 +14,13 @@ use Rattle.linear.proofs.reduce.compact.Statement.{statement}
 use Rattle.linear.proofs.reduce.compact.Tie as tie
 
 abbrev Inv-loop : tie.InvT-loop
-Inv-loop table rows₀ j₀ q₀ rows j q = (q ≤ length table) × (j ≤ 16) × Packed 16 rows j (rowsOf (drop q table)) (rowsOf table)
+Inv-loop table rows₀ j₀ q₀ rows j q = (q ≤ length table) × (j ≤ maxRows) × Packed maxRows rows j (rowsOf (drop q table)) (rowsOf table)
 
 abbrev μ-loop : tie.MeasureT-loop
 μ-loop table rows₀ j₀ q₀ rows j q = length table - q
 
 loop-holds : tie.Need-loop-holds Inv-loop μ-loop
-loop-holds c = (search needs, search needs, packed-start 16 (rowsOf (c .args .table .now)))
+loop-holds c = (search needs, search needs, packed-start maxRows (rowsOf (c .args .table .now)))
 
 mul-if1 : tie.Need-mul-if1 Inv-loop μ-loop
 mul-if1 c = search needs
@@ -59,7 +60,7 @@ loop-again c =
     let l = i .loop in
     let table = s .args .table .now in
     let h = c .before .before .loop-test .taken in
-    let Next : List ℕ → ℕ → Type 0 = λ rows j. (j ≤ 16) × Packed 16 rows j (rowsOf (drop (l .q + 1) table)) (rowsOf table) in
+    let Next : List ℕ → ℕ → Type 0 = λ rows j. (j ≤ maxRows) × Packed maxRows rows j (rowsOf (drop (l .q + 1) table)) (rowsOf table) in
     let next : Next (c .if1 .rows) (c .if1 .j)
     = ⊎-elim
     (λ w.

@@ -5,6 +5,7 @@ use Rattle.coding.specs.Lists.{padded}
 use Rattle.coding.specs.Reduced.{rowsOf, reducedRows, pivots}
 use Rattle.coding.proofs.EchelonLaws.{reducedRows-form}
 use Rattle.coding.proofs.UniqueLaws.{reducedForm-unique}
+use Rattle.linear.specs.Limits.{maxRows}
 use Rattle.linear.specs.Accepted.{Accepted}
 use Rattle.linear.proofs.AcceptLaws.{accepted-in, refused-done}
 use Rattle.linear.proofs.TableLaws.{rows-are, compact-is}
@@ -56,7 +57,7 @@ returns-2 c =
     let form = reducedRows-form (a .n) (a .rows .now) (A .inside) in
     record {
       answer = sym d ∙ R .ensures .answer;
-      rows-are = c .compact .ensures ∙ ap (padded 16) (compact-is (a .n) (a .k) (a .rows .now) A (R .result .table) (R .ensures .table d));
+      rows-are = c .compact .ensures ∙ ap (padded maxRows) (compact-is (a .n) (a .k) (a .rows .now) A (R .result .table) (R .ensures .table d));
       count = λ _. rows-are (a .n) (a .k) (a .rows .now) A;
       form = λ _. form;
       only = λ _ B P F. reducedForm-unique (a .rows .now) B (reducedRows (a .n) (a .rows .now)) P (pivots (a .n) (a .rows .now)) F form;
