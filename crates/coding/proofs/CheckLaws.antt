@@ -4,7 +4,7 @@ use mathlib.Core.Path.{_≡_, refl, sym, ap, ap₂, _∙_}
 use mathlib.Core.Logic.{_≢_}
 use mathlib.Core.List.{List, [], _∷_, map}
 use Prim.Native.Nat.{ℕ, zero, suc, _+_, _*_, _/_, _%_, _^_, _<_, _≤_, _-_, min, suc-le-suc}
-use native.Mathlib.Nat.{le-refl, pow-suc, suc-ne-zero, suc-inj, add-zero, add-suc, suc-add, lt-of-lt-of-le}
+use native.Mathlib.Nat.{le-refl, pow-suc, suc-ne-zero, suc-inj, add-zero, add-suc, suc-add, lt-of-lt-of-le, le-of-suc-le-suc}
 use native.Mathlib.Omega.{arith}
 use lib.ListN.{length, getD, drop, length-drop}
 use lib.Seq.{drop-cons}
@@ -81,11 +81,16 @@ syndrome-xor (h ∷ hs) a b =
     ap₂ (λ (x y : ℕ). x + 2 * y) (parity-xor a b h) (syndrome-xor hs a b)
     ∙ sym (cons-xor (parity a h) (parity b h) (syndrome hs a) (syndrome hs b) (parity-lt a h) (parity-lt b h))
 
+-- place j is the digit of entry j
+pub places-bit : (digit : ℕ → ℕ) → ((x : ℕ) → digit x < 2) → (l : List ℕ) (j : ℕ) → j < length l → bit (places digit l) j ≡ digit (getD l j 0)
+places-bit digit f [] j h = absurd (omega arith)
+places-bit digit f (x ∷ l) zero h = omega (arith, cons-odd (digit x) (places digit l) (f x))
+places-bit digit f (x ∷ l) (suc j) h =
+    bit-half (places digit (x ∷ l)) j ∙ ap (λ (y : ℕ). bit y j) (cons-half (digit x) (places digit l) (f x))
+    ∙ places-bit digit f l j (le-of-suc-le-suc h)
+
 pub syndrome-bit : (hs : List ℕ) (w j : ℕ) → j < length hs → bit (syndrome hs w) j ≡ parity w (getD hs j 0)
-syndrome-bit [] w j h = absurd (omega arith)
-syndrome-bit (h ∷ hs) w zero l = omega (arith, cons-odd (parity w h) (syndrome hs w) (parity-lt w h))
-syndrome-bit (h ∷ hs) w (suc j) l =
-    bit-half (syndrome (h ∷ hs) w) j ∙ ap (λ (x : ℕ). bit x j) (cons-half (parity w h) (syndrome hs w) (parity-lt w h)) ∙ syndrome-bit hs w j (omega arith)
+syndrome-bit hs w = places-bit (parity w) (parity-lt w) hs
 
 -- a syndrome of 0 is a parity of 0 by each check row
 pub syndrome-each : (f : ℕ → ℕ) (rs : List ℕ) (i w : ℕ) → syndrome (map f (freesFrom i rs)) w ≡ 0 → (j : ℕ) → j < length rs → getD rs j 0 ≡ 0 → parity w (f (i + j)) ≡ 0

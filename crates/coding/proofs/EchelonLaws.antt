@@ -13,21 +13,13 @@ use Rattle.coding.specs.Reduced.{Leads, Echelon, ReducedForm, rowsOf, pi
 use Rattle.coding.proofs.MatrixLaws.{encode-xor, encode-zero, encode-kept, encode-in, codeword-zero, codeword-xor, row-codeword}
 use Rattle.coding.proofs.PivotLaws.{ByPlace, row-kept}
 use Rattle.coding.proofs.ReduceLaws.{whole, codeword-kept, kept-codeword}
+use Rattle.coding.proofs.CompactLaws.{rows-from}
 
 -- there is a pivot for each row
 pivots-count : (p : ℕ) (B : List ℕ) → length (pivotsFrom p B) ≡ length (rowsOf B)
 pivots-count p [] = refl
 pivots-count p (zero ∷ B) = pivots-count (suc p) B
 pivots-count p (suc r ∷ B) = ap suc (pivots-count (suc p) B)
-
--- what holds for each nonzero entry and its place, counted from p, holds for each row and its pivot
-rows-from : (C : ℕ → ℕ → Type 0) (p : ℕ) (B : List ℕ) → ((q : ℕ) → q < length B → getD B q 0 ≢ 0 → C (getD B q 0) (p + q))
-    → (i : ℕ) → i < length (rowsOf B) → C (getD (rowsOf B) i 0) (getD (pivotsFrom p B) i 0)
-rows-from C p [] f i h = absurd (omega arith)
-rows-from C p (zero ∷ B) f i h = rows-from C (suc p) B (λ q l ne. rw (suc-add p q, ← add-suc p q) (f (suc q) (suc-le-suc l) ne)) i h
-rows-from C p (suc r ∷ B) f zero h = rw add-zero at (f 0 (omega arith) (suc-ne-zero r))
-rows-from C p (suc r ∷ B) f (suc i) h =
-    rows-from C (suc p) B (λ q l ne. rw (suc-add p q, ← add-suc p q) (f (suc q) (suc-le-suc l) ne)) i (le-of-suc-le-suc h)
 
 -- the pivots rise
 pivots-rise : (p : ℕ) (B : List ℕ) (i j : ℕ) → i < j → j < length (rowsOf B) → getD (pivotsFrom p B) i 0 < getD (pivotsFrom p B) j 0

@@ -11,6 +11,7 @@ pub mod DependLaws
 pub mod TraceLaws
 pub mod EliminateLaws
 pub mod WidthLaws
+pub mod CompactLaws
 pub mod EchelonLaws
 pub mod UniqueLaws
-pub mod CompactLaws
+pub mod CheckRowLaws

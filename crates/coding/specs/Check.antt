@@ -1,6 +1,9 @@
 -- 01, part 2: parity-check rows and syndromes.
+use mathlib.Core.Path.{_≡_}
+use mathlib.Core.Logic.{_≢_}
 use mathlib.Core.List.{List, [], _∷_, map}
-use Prim.Native.Nat.{ℕ, zero, suc, _+_, _*_, _^_}
+use Prim.Native.Nat.{ℕ, zero, suc, _+_, _*_, _^_, _<_}
+use lib.ListN.{length, getD}
 use Rattle.coding.specs.Word.{_⊕_, bit, parity}
 use Rattle.coding.specs.Reduced.{reduce, freesFrom}
 
@@ -17,11 +20,21 @@ column rows q = places (λ r. bit r q) rows
 abbrev pub check : List ℕ → ℕ → ℕ
 check B q = 2 ^ q ⊕ column B q
 
+-- 01's words for it: h is the check row of q, where these are the reduced rows, their pivots and the places that are no pivot
+pub record CheckRow (n : ℕ) (rows pivots frees : List ℕ) (q h : ℕ) : Type 0 where
+  pub own : bit h q ≡ 1
+  pub at-pivots : (i : ℕ) → i < length rows → bit h (getD pivots i 0) ≡ bit (getD rows i 0) q
+  pub at-others : (j : ℕ) → j < length frees → getD frees j 0 ≢ q → bit h (getD frees j 0) ≡ 0
+  pub inside : h < 2 ^ n
+
 -- one for each place that is no pivot, in rising order; B lists the reduced rows by place
 abbrev pub checksOf : List ℕ → List ℕ
 checksOf B = map (check B) (freesFrom 0 B)
 
--- the parity-check rows of a matrix
+-- the places of a matrix that are no pivot, and its parity-check rows
+abbrev pub frees : ℕ → List ℕ → List ℕ
+frees n rows = freesFrom 0 (reduce n rows)
+
 abbrev pub checks : ℕ → List ℕ → List ℕ
 checks n rows = checksOf (reduce n rows)
 

@@ -33,7 +33,7 @@ module _ (n k : ℕ) (rows : List ℕ) (A : Accepted n k rows) where
   places : length (reduce n rows) ≡ n
   places = whole n rows (A .inside) .reduced .size
 
-  frees-are : length (freesFrom 0 (reduce n rows)) + k ≡ n
+  pub frees-are : length (freesFrom 0 (reduce n rows)) + k ≡ n
   frees-are = omega (arith, check-count n rows (A .inside) (A .independent), A .count)
 
   pub rows-are : length (reducedRows n rows) ≡ k

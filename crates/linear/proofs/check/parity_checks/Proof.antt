@@ -2,9 +2,12 @@
 use mathlib.Core.Path.{_≡_, sym, _∙_}
 use Rattle.coding.specs.Lists.{padded}
 use Rattle.coding.specs.Check.{checks}
+use Rattle.coding.proofs.CheckRowLaws.{check-rows}
 use Rattle.linear.specs.Limits.{maxChecks}
+use Rattle.linear.specs.Accepted.{Accepted}
+use Rattle.linear.specs.declared.answer.Answer.the-variants.{Done}
 use Rattle.linear.proofs.AcceptLaws.{accepted-in}
-use Rattle.linear.proofs.TableLaws.{codeword-syndrome}
+use Rattle.linear.proofs.TableLaws.{frees-are, codeword-syndrome}
 use borrow.Author.Needs.{needs}
 use Rattle.linear.proofs.check.parity_checks.Statement.{statement}
 use Rattle.linear.proofs.check.parity_checks.Tie as tie
@@ -16,12 +19,16 @@ returns : tie.Need-returns
 returns c =
     let a = c .before .before .before .args in
     let r = c .before .code-of in
+    let accepted : r .result .answer ≡ Done → Accepted (a .n) (a .k) (a .rows .now)
+    = λ d. accepted-in (a .n) (a .k) (a .rows .now) (sym (r .ensures .answer) ∙ d) in
     record {
       answer = r .ensures .answer;
       rows-are = r .ensures .checks-are;
+      count = λ d. frees-are (a .n) (a .k) (a .rows .now) (accepted d);
+      check-rows = λ d. check-rows (a .n) (a .rows .now) (accepted d .inside);
       codewords = λ d.
           let e : r .result .checks ≡ padded maxChecks (checks (a .n) (a .rows .now)) = rw d at (r .ensures .checks-are) in
-          rw e (codeword-syndrome (a .n) (a .k) (a .rows .now) (accepted-in (a .n) (a .k) (a .rows .now) (sym (r .ensures .answer) ∙ d)));
+          rw e (codeword-syndrome (a .n) (a .k) (a .rows .now) (accepted d));
     }
 
 pub parity-checks-spec : {M : Type 1} → statement M

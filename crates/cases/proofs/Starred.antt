@@ -1,0 +1,46 @@
+-- 01, "Worked words": the starred cases, in 01's order, each by computation on the definitions that the contracts cite.
+-- A word is written as a number, place 0 lowest: 01's 1101000 is 0b0001011. Assumes nothing.
+use mathlib.Core.Path.{_≡_, refl}
+use mathlib.Core.List.{List, [], _∷_}
+use Prim.Native.Nat.{ℕ}
+use lib.Count.{trailingZeros}
+use Rattle.coding.specs.Matrix.{encode, messageOf}
+use Rattle.coding.specs.Reduced.{reducedRows}
+use Rattle.linear.specs.Refusal.{numberOf, valueOf}
+use Rattle.linear.specs.Accepted.{shapeAnswer, matrixAnswer}
+use Rattle.linear.specs.declared.answer.Refusal.the-variants.{Dependent}
+use Rattle.linear.specs.declared.answer.Answer.the-variants.{Done, Refused}
+
+-- (7,4) with rows 1101000, 0110100, 1110010, 1010001
+abbrev seven : List ℕ
+seven = 0b0001011 ∷ 0b0010110 ∷ 0b0100111 ∷ 0b1000101 ∷ []
+
+-- it is accepted
+seven-accepted : matrixAnswer 7 4 seven ≡ Done
+unfolding matrixAnswer shapeAnswer messageOf
+seven-accepted = refl
+
+-- message 1101 gives 0001101
+seven-encoded : encode seven 0b1011 ≡ 0b1011000
+seven-encoded = refl
+
+-- its reduced rows: 1000110, 0100011, 0010111, 0001101
+seven-reduced : reducedRows 7 seven ≡ 0b0110001 ∷ 0b1100010 ∷ 0b1110100 ∷ 0b1011000 ∷ []
+unfolding trailingZeros
+seven-reduced = refl
+
+-- the codeword 1001011 has the message 1011
+seven-message : messageOf seven 0b1101001 ≡ 0b1101
+unfolding messageOf
+seven-message = refl
+
+-- n = 4, rows 1100, 1010, 0110: number 4, row 2
+dependent-rows : matrixAnswer 4 3 (0b0011 ∷ 0b0101 ∷ 0b0110 ∷ []) ≡ Refused (Dependent 2)
+unfolding matrixAnswer shapeAnswer messageOf
+dependent-rows = refl
+
+dependent-number : numberOf (Dependent 2) ≡ 4
+dependent-number = refl
+
+dependent-value : valueOf (Dependent 2) ≡ 2
+dependent-value = refl
