@@ -2,11 +2,11 @@
 use mathlib.Core.Path.{_≡_, refl, sym, ap, _∙_}
 use mathlib.Core.Bool.{Bool, true, false}
 use Prim.Native.Nat.{ℕ, zero, suc, _+_, _*_, _/_, _%_, _^_, _≤_, _<_}
-use native.Mathlib.Nat.{div-eq-of-lt, div-lt-iff-lt-mul, lt-of-lt-of-le, one-mul, mul-one, mul-zero}
+use native.Mathlib.Nat.{div-eq-of-lt, div-lt-iff-lt-mul, lt-of-lt-of-le, one-mul, mul-one, mul-zero, mod-eq-of-lt}
 use native.Mathlib.Omega.{arith}
 use lib.Dec.{eqb, ltb, lit<}
 use lib.Pow.{pow-pos, pow-mono, shl-exact}
-use lib.Bits.{bitAnd, and-mask}
+use lib.Bits.{bitAnd, and-mask, and-zero-r}
 use borrow.Author.Tests.{ltb-true, ltb-false, lt-ltb, eq-eqb, ne-eqb}
 use Rattle.coding.specs.Word.{bit, parity}
 use Rattle.coding.specs.Matrix.{sel}
@@ -40,6 +40,15 @@ times-digit row m = ap (λ (c : ℕ). row * c) (and-mask m 1) ∙ go (m % 2) (om
     go zero h = mul-zero row
     go (suc zero) h = mul-one row
     go (suc (suc c)) h = absurd (omega arith)
+
+-- a row where a digit is 1, by the mask that the digit makes
+pub masked-digit : (row m : ℕ) → row < 2 ^ 32 → bitAnd row (bitAnd m 1 * 4294967295) ≡ sel (m % 2) row
+masked-digit row m h = ap (λ (c : ℕ). bitAnd row (c * 4294967295)) (and-mask m 1) ∙ go (m % 2) (omega arith)
+  where
+    go : (c : ℕ) → c < 2 → bitAnd row (c * 4294967295) ≡ sel c row
+    go zero l = and-zero-r row
+    go (suc zero) l = and-mask row 32 ∙ mod-eq-of-lt h
+    go (suc (suc c)) l = absurd (omega arith)
 
 pub sel-le : (c row : ℕ) → sel c row ≤ row
 sel-le zero row = omega arith

@@ -1,6 +1,7 @@
 // Part 2: parity-check rows and syndromes.
 use crate::answer::Answer;
-use crate::limits::{MAX_CHECKS, WIDTH};
+use crate::limits::MAX_CHECKS;
+use crate::limits::WIDTH;
 use crate::reduce::reduce;
 use crate::word::parity;
 use crate::word::place;

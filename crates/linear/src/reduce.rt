@@ -2,7 +2,9 @@
 use crate::accept::shape;
 use crate::answer::Answer;
 use crate::answer::Refusal;
-use crate::limits::{MAX_ROWS, WIDTH};
+use crate::limits::MAX_ROWS;
+use crate::limits::WIDTH;
+use crate::word::masked;
 use crate::word::selected;
 ghost use mathlib.Core.Path.{_≡_};
 ghost use Prim.Native.Nat.{ℕ, _<_, _≤_, _^_};
@@ -28,7 +30,7 @@ fn put(rows: &[u32; WIDTH], entries: &mut [u32; WIDTH], q: usize, x: u32)
 {
     let mut p: usize = 0;
     while p < WIDTH {
-        entries[p] = entries[p] ^ selected(x, rows[p] >> q);
+        entries[p] = entries[p] ^ masked(x, rows[p] >> q);
         p += 1;
     }
     entries[q] = x;
