@@ -15,3 +15,6 @@ pub mod CompactLaws
 pub mod EchelonLaws
 pub mod UniqueLaws
 pub mod CheckRowLaws
+pub mod CountLaws
+pub mod WeightCountLaws
+pub mod DistanceLaws

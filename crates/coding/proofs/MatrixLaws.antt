@@ -10,7 +10,7 @@ use native.Mathlib.Omega.{arith}
 use lib.ListN.{length, getD, take, drop, drop-of-length-le}
 use lib.Seq.{drop-cons}
 use lib.Pow.{pow-pos, pow-lt}
-use lib.Bits.{xor-lt, xor-zero-r, xor-self}
+use lib.Bits.{xor-lt, xor-zero-r, xor-self, block-half, block-odd}
 use Rattle.coding.specs.Lists.{blank}
 use Rattle.coding.specs.Word.{_⊕_, bit}
 use Rattle.coding.specs.Matrix.{sel, encode, Codeword, Inside, Independent}
@@ -117,3 +117,12 @@ encode-take [] zero u h = refl
 encode-take [] (suc i) u h = refl
 encode-take (r ∷ rs) zero u h = let e : u ≡ 0 = omega arith in rw e (sym (encode-zero (r ∷ rs)))
 encode-take (r ∷ rs) (suc i) u h = ap (λ (x : ℕ). sel (u % 2) r ⊕ x) (encode-take rs i (u / 2) (half-lt i h))
+
+-- a message for the first rows and one for the others, in one number
+pub encode-split : (front others : List ℕ) (h i : ℕ) → i < 2 ^ length front
+    → encode (front ++ others) (h * 2 ^ length front + i) ≡ encode front i ⊕ encode others h
+encode-split [] others h i k = let e : h * 2 ^ 0 + i ≡ h = omega arith in ap (encode others) e
+encode-split (r ∷ front) others h i k =
+    ap₂ (λ (a b : ℕ). sel a r ⊕ encode (front ++ others) b) (block-odd h (length front) i) (block-half h (length front) i)
+    ∙ ap (λ (x : ℕ). sel (i % 2) r ⊕ x) (encode-split front others h (i / 2) (half-lt (length front) k))
+    ∙ sym (xor-assoc (sel (i % 2) r) (encode front (i / 2)) (encode others h))

@@ -54,6 +54,14 @@ first-is p (suc m) (suc r) h f t =
     ap (λ (b : Bool). pick b zero (suc (first (λ i. p (suc i)) m))) (f zero (zero-lt-suc r))
     ∙ ap suc (first-is (λ i. p (suc i)) m r (le-of-suc-le-suc h) (λ j l. f (suc j) (suc-le-suc l)) (λ l. t (suc-le-suc l)))
 
+-- an index that passes is not before the one found
+pub first-upto : (p : ℕ → Bool) (m i : ℕ) → i < m → p i ≡ true → first p m ≤ i
+first-upto p m i h e = go (decLe (first p m) i)
+  where
+    go : Dec (first p m ≤ i) → first p m ≤ i
+    go (yes l) = l
+    go (no l) = absurd (true-false e (first-before p m i (omega arith)))
+
 -- tests that agree find the same index
 pub first-same : (p q : ℕ → Bool) (m : ℕ) → ((i : ℕ) → i < m → p i ≡ q i) → first p m ≡ first q m
 first-same p q m f =

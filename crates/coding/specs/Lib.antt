@@ -3,3 +3,4 @@ pub mod Word
 pub mod Matrix
 pub mod Reduced
 pub mod Check
+pub mod Weight

@@ -1,7 +1,7 @@
 -- Small tools of the definitions: a choice, the first index that passes a test, and a list filled up with zeros.
-use mathlib.Core.List.{List, _++_}
+use mathlib.Core.List.{List, [], _∷_, _++_}
 use mathlib.Core.Bool.{Bool, true, false}
-use Prim.Native.Nat.{ℕ, zero, suc, _-_}
+use Prim.Native.Nat.{ℕ, zero, suc, _+_, _-_}
 use lib.ListN.{length, replicate}
 
 -- the first where the test holds, else the second
@@ -21,3 +21,17 @@ blank m = replicate m 0
 -- the list, and 0 up to m entries
 abbrev pub padded : ℕ → List ℕ → List ℕ
 padded m l = l ++ blank (m - length l)
+
+-- f 0 to f (m - 1)
+abbrev pub tabulate : (ℕ → ℕ) → ℕ → List ℕ
+tabulate f zero = []
+tabulate f (suc m) = f zero ∷ tabulate (λ i. f (suc i)) m
+
+-- the sum of the entries
+abbrev pub total : List ℕ → ℕ
+total [] = 0
+total (x ∷ l) = x + total l
+
+abbrev pub both : Bool → Bool → Bool
+both true b = b
+both false b = false

@@ -10,10 +10,11 @@ use lib.Dec.{eqb, leb, ltb}
 use lib.ListN.{length, getD, take}
 use lib.Seq.{take-length}
 use borrow.Author.Tests.{leb-true, le-leb, eqb-true, eq-eqb, lt-ltb, ltb-true, not-false}
+use Rattle.coding.specs.Lists.{both}
 use Rattle.coding.specs.Matrix.{Codeword, Inside, Independent, Depends, isCodeword, firstDependent}
 use Rattle.coding.proofs.SearchLaws.{first-is, first-le, first-before}
 use Rattle.coding.proofs.DependLaws.{dependent-is, dependent-there, dependent-before, dependent-independent, none-independent, independent-none}
-use Rattle.linear.specs.Limits.{maxPlaces, maxRows, maxChecks, InRange, inRange, both}
+use Rattle.linear.specs.Limits.{maxPlaces, maxRows, maxChecks, InRange, inRange}
 use Rattle.linear.specs.Refusal.{unless, andThen}
 use Rattle.linear.specs.Accepted.{firstOutside, shapeAnswer, matrixAnswer, Accepted}
 use Rattle.linear.specs.declared.answer.Refusal.{Refusal}

@@ -1,7 +1,8 @@
 -- The limits of 01, "Words and matrices" and cause 6. No other definition has these numbers.
-use mathlib.Core.Bool.{Bool, true, false}
+use mathlib.Core.Bool.{Bool}
 use Prim.Native.Nat.{ℕ, _+_, _≤_}
 use lib.Dec.{leb}
+use Rattle.coding.specs.Lists.{both}
 
 abbrev pub maxPlaces : ℕ
 maxPlaces = 28
@@ -20,10 +21,6 @@ pub record InRange (n k : ℕ) : Type 0 where
   pub places : (2 ≤ n) × (n ≤ maxPlaces)
   pub rows : (1 ≤ k) × (k ≤ maxRows)
   pub checks : (k + 1 ≤ n) × (n ≤ k + maxChecks)
-
-abbrev pub both : Bool → Bool → Bool
-both true b = b
-both false b = false
 
 -- the same as a test
 abbrev pub inRange : ℕ → ℕ → Bool

@@ -1,0 +1,82 @@
+-- `weights::walk::fill_block`: the first j entries are the codewords of the messages below j. Assumes nothing.
+use mathlib.Core.Path.{_≡_, refl, sym, ap, _∙_}
+use mathlib.Core.List.{List}
+use Prim.Native.Nat.{ℕ, _≤_, _<_, _-_}
+use lib.ListN.{length, getD, set, length-set}
+use Rattle.coding.specs.Lists.{tabulate}
+use Rattle.coding.specs.Matrix.{encode}
+use Rattle.coding.proofs.ListLaws.{over, over-set, over-whole}
+use Rattle.coding.proofs.CountLaws.{length-tabulate, getD-tabulate}
+use borrow.Author.Needs.{needs}
+use native.Mathlib.Omega.{arith}
+use Rattle.weights.proofs.walk.fill_block.Statement.{statement}
+use Rattle.weights.proofs.walk.fill_block.Tie as tie
+
+abbrev Inv-loop : tie.InvT-loop
+Inv-loop rows block₀ j₀ block j = (j ≤ length block₀) × (length block ≡ length block₀) × (block ≡ over (tabulate (encode rows) (length block₀)) block₀ j)
+
+abbrev μ-loop : tie.MeasureT-loop
+μ-loop rows block₀ j₀ block j = length block₀ - j
+
+loop-holds : tie.Need-loop-holds Inv-loop μ-loop
+loop-holds c = search needs
+
+cast-row-sum : tie.Need-cast-row-sum Inv-loop μ-loop
+cast-row-sum c = search needs
+
+row-sum-requires : tie.Need-row-sum-requires Inv-loop μ-loop
+row-sum-requires c κs = search needs
+
+mul-block : tie.Need-mul-block Inv-loop μ-loop
+mul-block c = search needs
+
+slice-write-block : tie.Need-slice-write-block Inv-loop μ-loop
+slice-write-block c = search needs
+
+add-j : tie.Need-add-j Inv-loop μ-loop
+add-j c = search needs
+
+loop-less : tie.Need-loop-less Inv-loop μ-loop
+loop-less c = search needs
+
+loop-again : tie.Need-loop-again Inv-loop μ-loop
+loop-again c =
+    let l = c .before .before .loop in
+    let a = c .before .before .before .before .before .args in
+    let W = tabulate (encode (a .rows .now)) (length (a .block .now)) in
+    let long : length W ≡ length (a .block .now) = length-tabulate (encode (a .rows .now)) (length (a .block .now)) in
+    let h : l .j < length (a .block .now) = omega (arith, c .before .loop-test .taken) in (
+      omega arith,
+      simp length-set (l .inv .1),
+      ap (λ (b : List ℕ). set b (l .j) (c .row-sum .result)) (l .inv .2)
+          ∙ over-set W (a .block .now) (l .j) _ (omega arith) h
+          (c .row-sum .ensures ∙ sym (getD-tabulate (encode (a .rows .now)) (length (a .block .now)) (l .j) h)),
+    )
+
+same-length : tie.Need-same-length Inv-loop μ-loop
+same-length c = search needs
+
+returns : tie.Need-returns Inv-loop μ-loop
+returns c =
+    let l = c .before .loop in
+    let a = c .before .before .before .before .args in
+    l .inv .2
+    ∙ over-whole (tabulate (encode (a .rows .now)) (length (a .block .now))) (a .block .now) (l .j)
+    (length-tabulate (encode (a .rows .now)) (length (a .block .now))) (omega (arith, c .loop-test .left, l .inv .1))
+
+pub fill-block-spec : {M : Type 1} → statement M
+fill-block-spec =
+    tie.close
+    (tie.spec
+    Inv-loop
+    μ-loop
+    loop-holds
+    cast-row-sum
+    row-sum-requires
+    mul-block
+    slice-write-block
+    add-j
+    loop-less
+    loop-again
+    same-length
+    returns)

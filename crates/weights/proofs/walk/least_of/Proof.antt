@@ -1,0 +1,75 @@
+-- `weights::walk::least_of`: no weight from 1 to j - 1 has been counted. Assumes nothing.
+use mathlib.Core.Path.{_≡_, sym, ap, _∙_}
+use mathlib.Core.Bool.{false, not}
+use Prim.Native.Nat.{ℕ, suc, _≤_, _<_, _-_, _+_}
+use lib.Dec.{eqb}
+use lib.ListN.{length, getD}
+use borrow.Author.Tests.{eq-eqb, ne-eqb}
+use Rattle.weights.proofs.WalkLaws.{least-found, passed}
+use borrow.Author.Needs.{needs}
+use native.Mathlib.Omega.{arith}
+use Rattle.weights.proofs.walk.least_of.Statement.{statement}
+use Rattle.weights.proofs.walk.least_of.Tie as tie
+
+abbrev Inv-loop : tie.InvT-loop
+Inv-loop counts j₀ j = (1 ≤ j) × (j ≤ 33) × ((i : ℕ) → 1 ≤ i → i < j → getD counts i 0 ≡ 0)
+
+abbrev μ-loop : tie.MeasureT-loop
+μ-loop counts j₀ j = 33 - j
+
+loop-holds : tie.Need-loop-holds Inv-loop μ-loop
+loop-holds c = (search needs, search needs, λ i h k. absurd (omega arith))
+
+mul-if1 : tie.Need-mul-if1 Inv-loop μ-loop
+mul-if1 c = search needs
+
+shared-slice-read-if1 : tie.Need-shared-slice-read-if1 Inv-loop μ-loop
+shared-slice-read-if1 c = search needs
+
+cast-result : tie.Need-cast-result Inv-loop μ-loop
+cast-result c = search needs
+
+returns : tie.Need-returns Inv-loop μ-loop
+returns c =
+    let l = c .before .before .before in
+    least-found (l .before .args .counts .now) (l .loop .j) (l .loop .inv .0) (l .loop .inv .1) (l .loop .inv .2) (λ _. c .if1 .taken)
+
+add-j : tie.Need-add-j Inv-loop μ-loop
+add-j c = search needs
+
+loop-less : tie.Need-loop-less Inv-loop μ-loop
+loop-less c = search needs
+
+loop-again : tie.Need-loop-again Inv-loop μ-loop
+loop-again c =
+    let l = c .before .before .before in (
+      omega arith,
+      omega (arith, l .before .pre, c .before .before .loop-test .taken),
+      λ i h k. passed (l .before .args .counts .now) (l .loop .j) (l .loop .inv .2) (c .if1 .left) i h k,
+    )
+
+cast-result-2 : tie.Need-cast-result-2 Inv-loop μ-loop
+cast-result-2 c = search needs
+
+returns-2 : tie.Need-returns-2 Inv-loop μ-loop
+returns-2 c =
+    let l = c .before in
+    least-found (l .before .args .counts .now) (l .loop .j) (l .loop .inv .0) (l .loop .inv .1) (l .loop .inv .2)
+    (λ h. absurd (omega (arith, l .before .pre, c .loop-test .left, h)))
+
+pub least-of-spec : {M : Type 1} → statement M
+least-of-spec =
+    tie.close
+    (tie.spec
+    Inv-loop
+    μ-loop
+    loop-holds
+    mul-if1
+    shared-slice-read-if1
+    cast-result
+    returns
+    add-j
+    loop-less
+    loop-again
+    cast-result-2
+    returns-2)

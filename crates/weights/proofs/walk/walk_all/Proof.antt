@@ -1,0 +1,80 @@
+-- `weights::walk::walk_all`: the first rows make the block, the others are walked. Assumes nothing.
+use mathlib.Core.Path.{_≡_, refl, sym, ap, _∙_}
+use mathlib.Core.List.{List, _++_}
+use Prim.Native.Nat.{_-_}
+use lib.ListN.{length, take, drop, length-append}
+use lib.Seq.{length-take-le}
+use Rattle.coding.proofs.MachineLaws.{shl-one}
+use Rattle.weights.proofs.WalkLaws.{size-fits, parts-whole, parts-fit}
+use borrow.Author.Needs.{needs}
+use native.Mathlib.Omega.{arith}
+use Rattle.weights.proofs.walk.walk_all.Statement.{statement}
+use Rattle.weights.proofs.walk.walk_all.Tie as tie
+
+block-rows-requires : tie.Need-block-rows-requires
+block-rows-requires c κs = search needs
+
+shl-size : tie.Need-shl-size
+shl-size c = omega (arith, c .block-rows .ensures .1)
+
+slice-aggregate-walk-blocks : tie.Need-slice-aggregate-walk-blocks
+slice-aggregate-walk-blocks c = sym (length-take-le (c .before .block-rows .result) (c .before .before .before .args .rows .now) (c .before .block-rows .ensures .0))
+
+mul-walk-blocks : tie.Need-mul-walk-blocks
+mul-walk-blocks c = record { fits = omega (arith, c .before .block-rows .ensures .1) }
+
+sub-walk-blocks : tie.Need-sub-walk-blocks
+sub-walk-blocks c = c .before .block-rows .ensures .0
+
+part-walk-blocks-start : tie.Need-part-walk-blocks-start
+part-walk-blocks-start c = c .before .block-rows .ensures .0
+
+part-walk-blocks-end : tie.Need-part-walk-blocks-end
+part-walk-blocks-end c = search needs
+
+array-borrow-prefix-block : tie.Need-array-borrow-prefix-block
+array-borrow-prefix-block c = size-fits (c .before .before .block-rows .result) (c .before .before .block-rows .ensures .1)
+
+slice-aggregate-walk-blocks-2 : tie.Need-slice-aggregate-walk-blocks-2
+slice-aggregate-walk-blocks-2 c = sym (length-take-le _ _ (size-fits (c .before .before .before .block-rows .result) (c .before .before .before .block-rows .ensures .1)))
+
+array-borrow-prefix-weights : tie.Need-array-borrow-prefix-weights
+array-borrow-prefix-weights c = size-fits (c .before .before .before .block-rows .result) (c .before .before .before .block-rows .ensures .1)
+
+slice-aggregate-walk-blocks-3 : tie.Need-slice-aggregate-walk-blocks-3
+slice-aggregate-walk-blocks-3 c = sym (length-take-le _ _ (size-fits (c .before .before .before .before .block-rows .result) (c .before .before .before .before .block-rows .ensures .1)))
+
+walk-blocks-requires : tie.Need-walk-blocks-requires
+walk-blocks-requires c κs =
+    let r = c .before .before .before .before .block-rows in
+    let s = c .before .before .before .before .before .before in
+    parts-fit (s .args .rows .now) (r .result) _ (shl-one (r .result) 64 (omega (arith, r .ensures .1))) (r .ensures .0) (r .ensures .1) (s .pre) _ _ refl refl
+
+returns : tie.Need-returns
+returns c =
+    let w = c .before .before in
+    let r = w .before .before .before .before .before .block-rows in
+    let s = w .before .before .before .before .before .before .before in
+    let rows = s .args .rows .now in
+    let front = take (r .result) rows in
+    let others = take (length rows - r .result) (drop (r .result) rows) in
+    let e : front ++ others ≡ rows = parts-whole rows (r .result) (r .ensures .0) in
+    rw (e, sym (length-append front others) ∙ ap length e) at (w .walk-blocks .ensures)
+
+pub walk-all-spec : {M : Type 1} → statement M
+walk-all-spec =
+    tie.close
+    (tie.spec
+    block-rows-requires
+    shl-size
+    slice-aggregate-walk-blocks
+    mul-walk-blocks
+    sub-walk-blocks
+    part-walk-blocks-start
+    part-walk-blocks-end
+    array-borrow-prefix-block
+    slice-aggregate-walk-blocks-2
+    array-borrow-prefix-weights
+    slice-aggregate-walk-blocks-3
+    walk-blocks-requires
+    returns)

@@ -1,0 +1,167 @@
+// One walk over all codewords. The codewords of the first rows, at most 256, are kept as a block; each sum of the other rows is added
+// to the whole block, so that a codeword costs one sum.
+use linear::encode::row_sum;
+use linear::limits::WIDTH;
+use linear::word::distance;
+ghost use mathlib.Core.Path.{_≡_};
+ghost use mathlib.Core.List.{map, _++_};
+ghost use mathlib.Core.Bool.{not};
+ghost use Prim.Native.Nat.{ℕ, suc, _+_, _<_, _≤_, _^_};
+ghost use lib.Dec.{eqb};
+ghost use lib.ListN.{length, getD};
+ghost use Rattle.coding.specs.Lists.{first, tabulate};
+ghost use Rattle.coding.specs.Word.{distance};
+ghost use Rattle.coding.specs.Matrix.{encode};
+ghost use Rattle.weights.specs.Walked.{leastOf, Tallied, BlockWalked, Walked};
+
+// The rows of a block, and its codewords.
+const BLOCK_ROWS: usize = 8;
+
+const BLOCK: usize = 256;
+
+// What a walk has found: how many codewords of each weight, the least weight but 0 (33 where there is none), and a word of it.
+pub(crate) struct Walk {
+    pub(crate) counts: [u32; WIDTH + 1],
+    pub(crate) least: u32,
+    pub(crate) lightest: u32,
+}
+
+// Entry j becomes the codeword of message j.
+fn fill_block(rows: &[u32], block: &mut [u32])
+    requires { ⌜ length (now block) ≤ 256 ⌝ }
+    ensures { λ _. ⌜ now (block .exit) ≡ tabulate (encode (now (rows .entry))) (length (now (block .entry))) ⌝ }
+{
+    let mut j: usize = 0;
+    while j < block.len() {
+        block[j] = row_sum(rows, j as u32);
+        j += 1;
+    }
+}
+
+// The weights of the block's codewords, each with base added.
+fn block_weights(block: &[u32], base: u32, weights: &mut [u32])
+    requires { ⌜ length (now weights) ≡ length (now block) ⌝ }
+    ensures { λ _. ⌜ now (weights .exit) ≡ map (λ b. distance b base) (now (block .entry)) ⌝ }
+{
+    let mut j: usize = 0;
+    while j < weights.len() {
+        weights[j] = distance(block[j], base);
+        j += 1;
+    }
+}
+
+// Counts each weight once more for each word that has it.
+fn tally(weights: &[u32], counts: &mut [u32; WIDTH + 1])
+    requires { ⌜ length (now counts) ≡ 33 ⌝ }
+    requires { ⌜ ((i : ℕ) → i < length (now weights) → getD (now weights) i 0 < 33) ⌝ }
+    requires { ⌜ ((j : ℕ) → getD (now counts) j 0 + length (now weights) < 2 ^ 32) ⌝ }
+    ensures { λ _. ⌜ Tallied (now (weights .entry)) (now (counts .entry)) (now (counts .exit)) ⌝ }
+{
+    let mut i: usize = 0;
+    while i < weights.len() {
+        let w = weights[i] as usize;
+        counts[w] = counts[w] + 1;
+        i += 1;
+    }
+}
+
+// The least weight but 0 that has been counted, or 33.
+fn least_of(counts: &[u32]) -> u32
+    requires { ⌜ length (now counts) ≡ 33 ⌝ }
+    ensures { λ r. ⌜ r ≡ leastOf (now (counts .entry)) ⌝ }
+{
+    let mut j: usize = 1;
+    while j < counts.len() {
+        if counts[j] != 0 {
+            return j as u32;
+        }
+        j += 1;
+    }
+    j as u32
+}
+
+// The first word of weight w, or the number of words where there is none.
+fn first_of(weights: &[u32], w: u32) -> usize
+    ensures { λ r. ⌜ r ≡ first (λ i. eqb (getD (now (weights .entry)) i 0) w) (length (now (weights .entry))) ⌝ }
+{
+    let mut i: usize = 0;
+    while i < weights.len() {
+        if weights[i] == w {
+            return i;
+        }
+        i += 1;
+    }
+    i
+}
+
+// The walk goes on over the block with base added; the second list is room for its weights.
+fn walk_block(block: &[u32], base: u32, weights: &mut [u32], walk: Walk) -> Walk
+    requires { ⌜ length (now weights) ≡ length (now block) ⌝ }
+    requires { ⌜ (length (walk .counts) ≡ 33) × (walk .least ≡ leastOf (walk .counts)) ⌝ }
+    requires { ⌜ ((j : ℕ) → getD (walk .counts) j 0 + length (now block) < 2 ^ 32) ⌝ }
+    ensures { λ r. ⌜ BlockWalked (now (block .entry)) base walk r × (length (now (weights .exit)) ≡ length (now (weights .entry))) ⌝ }
+{
+    block_weights(block, base, weights);
+    let mut counts = walk.counts;
+    tally(weights, &mut counts);
+    let least = least_of(&counts);
+    if least < walk.least {
+        let at = first_of(weights, least);
+        return Walk {
+            counts,
+            least,
+            lightest: block[at] ^ base,
+        };
+    }
+    Walk {
+        counts,
+        least,
+        lightest: walk.lightest,
+    }
+}
+
+// The walk over all sums of the first rows and the others, block by block.
+fn walk_blocks(front: &[u32], others: &[u32], block: &mut [u32], weights: &mut [u32]) -> Walk
+    requires { ⌜ (length (now block) ≡ 2 ^ length (now front)) × (length (now block) ≤ 256) × (length (now weights) ≡ length (now block)) ⌝ }
+    requires { ⌜ length (now front) + length (now others) < 32 ⌝ }
+    ensures { λ r. ⌜ Walked (now (front .entry) ++ now (others .entry)) (2 ^ (length (now (front .entry)) + length (now (others .entry)))) r ⌝ }
+{
+    fill_block(front, block);
+    let end = 1u32 << others.len();
+    let mut walk = Walk {
+        counts: [0u32; WIDTH + 1],
+        least: 33,
+        lightest: 0,
+    };
+    let mut h: u32 = 0;
+    while h < end {
+        let base = row_sum(others, h);
+        walk = walk_block(block, base, weights, walk);
+        h += 1;
+    }
+    walk
+}
+
+// How many of k rows make the block.
+fn block_rows(k: usize) -> usize
+    ensures { λ r. ⌜ (r ≤ k) × (r ≤ 8) ⌝ }
+{
+    if BLOCK_ROWS < k { BLOCK_ROWS } else { k }
+}
+
+// The walk over all codewords of the rows.
+pub(crate) fn walk_all(rows: &[u32]) -> Walk
+    requires { ⌜ length (now rows) < 32 ⌝ }
+    ensures { λ r. ⌜ Walked (now (rows .entry)) (2 ^ length (now (rows .entry))) r ⌝ }
+{
+    let mut block = [0u32; BLOCK];
+    let mut weights = [0u32; BLOCK];
+    let b = block_rows(rows.len());
+    let size = 1usize << b;
+    walk_blocks(
+        &rows[..b],
+        &rows[b..],
+        &mut block[..size],
+        &mut weights[..size],
+    )
+}

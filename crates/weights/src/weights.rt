@@ -1,0 +1,37 @@
+// Part 3: weight counts, minimum distance and a lightest codeword, from one walk.
+use crate::walk::walk_all;
+use linear::accept::accept;
+use linear::answer::Answer;
+use linear::limits::WIDTH;
+ghost use Rattle.weights.specs.Described.{WeightsOf};
+
+// The answer to a matrix; where it is accepted, its minimum distance, how many codewords it has of each weight (0 past n), and a
+// codeword of weight dmin; 0 everywhere else.
+pub struct Weights {
+    pub answer: Answer,
+    pub dmin: u32,
+    pub counts: [u32; WIDTH + 1],
+    pub lightest: u32,
+}
+
+pub fn weights_of(n: u32, k: u32, rows: &[u32]) -> Weights
+    ensures { λ r. ⌜ WeightsOf n k (now (rows .entry)) r ⌝ }
+{
+    let answer = accept(n, k, rows);
+    let Answer::Done = answer else {
+        return Weights {
+            answer,
+            dmin: 0,
+            counts: [0u32; WIDTH + 1],
+            lightest: 0,
+        };
+    };
+    let walk = walk_all(rows);
+    let counts = walk.counts;
+    Weights {
+        answer: Answer::Done,
+        dmin: walk.least,
+        counts,
+        lightest: walk.lightest,
+    }
+}
