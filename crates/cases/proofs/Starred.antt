@@ -3,9 +3,10 @@
 use mathlib.Core.Path.{_≡_, refl}
 use mathlib.Core.List.{List, [], _∷_}
 use Prim.Native.Nat.{ℕ}
-use lib.Count.{trailingZeros}
+use lib.Count.{ones, trailingZeros}
 use Rattle.coding.specs.Matrix.{encode, messageOf}
 use Rattle.coding.specs.Reduced.{reducedRows}
+use Rattle.coding.specs.Weight.{dmin, weightCount, weightCounts}
 use Rattle.linear.specs.Refusal.{numberOf, valueOf}
 use Rattle.linear.specs.Accepted.{shapeAnswer, matrixAnswer}
 use Rattle.linear.specs.declared.answer.Refusal.the-variants.{Dependent}
@@ -28,6 +29,16 @@ seven-encoded = refl
 seven-reduced : reducedRows 7 seven ≡ 0b0110001 ∷ 0b1100010 ∷ 0b1110100 ∷ 0b1011000 ∷ []
 unfolding trailingZeros
 seven-reduced = refl
+
+-- dmin 3
+seven-dmin : dmin seven ≡ 3
+unfolding dmin ones
+seven-dmin = refl
+
+-- its weights: one of 0, seven of 3, seven of 4, one of 7
+seven-weights : weightCounts 7 seven ≡ 1 ∷ 0 ∷ 0 ∷ 7 ∷ 7 ∷ 0 ∷ 0 ∷ 1 ∷ []
+unfolding weightCount messageOf ones
+seven-weights = refl
 
 -- the codeword 1001011 has the message 1011
 seven-message : messageOf seven 0b1101001 ≡ 0b1101
