@@ -169,3 +169,8 @@ count-total f n (suc M) h =
     total-add (λ j. pick (eqb (f M) j) 1 0) (λ j. count (λ u. eqb (f u) j) M) n
     ∙ ap₂ _+_ (total-one n (f M) (h M (le-refl (suc M)))) (count-total f n M (λ u l. h u (omega arith)))
     ∙ omega arith
+
+-- where every number passes, all are counted
+pub count-all : (p : ℕ → Bool) (m : ℕ) → ((i : ℕ) → i < m → p i ≡ true) → count p m ≡ m
+count-all p zero f = refl
+count-all p (suc m) f = ap₂ (λ (b : Bool) (x : ℕ). pick b 1 0 + x) (f m (le-refl (suc m))) (count-all p m (λ i h. f i (omega arith))) ∙ omega arith

@@ -18,3 +18,10 @@ pub mod CheckRowLaws
 pub mod CountLaws
 pub mod WeightCountLaws
 pub mod DistanceLaws
+pub mod LeaderLaws
+pub mod SpreadLaws
+pub mod OrderLaws
+pub mod RadiusLaws
+pub mod DecodeLaws
+pub mod BuildLaws
+pub mod LinearLaws

@@ -42,6 +42,10 @@ xor-cancel-r a b = xor-assoc b a a ∙ ap (λ (x : ℕ). b ⊕ x) (xor-self a) �
 pub xor-eq : (a b : ℕ) → a ⊕ b ≡ 0 → a ≡ b
 xor-eq a b e = sym (xor-cancel-r b a) ∙ ap (λ (x : ℕ). x ⊕ b) e
 
+-- only 0 is twice itself
+pub xor-fix : (a : ℕ) → a ⊕ a ≡ a → a ≡ 0
+xor-fix a e = sym e ∙ xor-self a
+
 pub xor-left-comm : (a b c : ℕ) → a ⊕ (b ⊕ c) ≡ b ⊕ (a ⊕ c)
 xor-left-comm a b c = sym (xor-assoc a b c) ∙ ap (λ (x : ℕ). x ⊕ c) (xor-comm a b) ∙ xor-assoc b a c
 

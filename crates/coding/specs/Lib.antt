@@ -4,3 +4,6 @@ pub mod Matrix
 pub mod Reduced
 pub mod Check
 pub mod Weight
+pub mod Leader
+pub mod Order
+pub mod Radius

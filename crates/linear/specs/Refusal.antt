@@ -4,7 +4,7 @@ use mathlib.Core.Bool.{Bool, true, false}
 use Prim.Native.Nat.{ℕ}
 use lib.ListN.{length, drop}
 use Rattle.linear.specs.declared.answer.Refusal.{Refusal}
-use Rattle.linear.specs.declared.answer.Refusal.the-variants.{OutOfRange, RowCount, RowOutside, Dependent, TooManyWords, WordOutside, ShortOutput, NoCodeword}
+use Rattle.linear.specs.declared.answer.Refusal.the-variants.{OutOfRange, RowCount, RowOutside, Dependent, RadiusTooLarge, TooManyWords, WordOutside, ShortOutput, ShortWork, NoCodeword, NoLeader}
 use Rattle.linear.specs.declared.answer.Answer.{Answer}
 use Rattle.linear.specs.declared.answer.Answer.the-variants.{Done, Refused}
 
@@ -13,20 +13,26 @@ numberOf OutOfRange = 1
 numberOf RowCount = 2
 numberOf (RowOutside i) = 3
 numberOf (Dependent i) = 4
+numberOf RadiusTooLarge = 5
 numberOf TooManyWords = 6
 numberOf (WordOutside i) = 7
 numberOf ShortOutput = 8
+numberOf ShortWork = 9
 numberOf (NoCodeword i) = 10
+numberOf (NoLeader s) = 11
 
 abbrev pub valueOf : Refusal → ℕ
 valueOf OutOfRange = 0
 valueOf RowCount = 0
 valueOf (RowOutside i) = i
 valueOf (Dependent i) = i
+valueOf RadiusTooLarge = 0
 valueOf TooManyWords = 0
 valueOf (WordOutside i) = i
 valueOf ShortOutput = 0
+valueOf ShortWork = 0
 valueOf (NoCodeword i) = i
+valueOf (NoLeader s) = s
 
 -- the cause refuses where its test fails; otherwise the later causes decide
 abbrev pub unless : Bool → Refusal → Answer → Answer

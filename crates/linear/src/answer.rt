@@ -8,10 +8,13 @@ pub enum Refusal {
     RowCount,
     RowOutside(usize),
     Dependent(usize),
+    RadiusTooLarge,
     TooManyWords,
     WordOutside(usize),
     ShortOutput,
+    ShortWork,
     NoCodeword(usize),
+    NoLeader(usize),
 }
 
 pub enum Answer {
@@ -28,10 +31,13 @@ pub fn number(r: Refusal) -> u32
         Refusal::RowCount => 2,
         Refusal::RowOutside(_) => 3,
         Refusal::Dependent(_) => 4,
+        Refusal::RadiusTooLarge => 5,
         Refusal::TooManyWords => 6,
         Refusal::WordOutside(_) => 7,
         Refusal::ShortOutput => 8,
+        Refusal::ShortWork => 9,
         Refusal::NoCodeword(_) => 10,
+        Refusal::NoLeader(_) => 11,
     }
 }
 
@@ -44,9 +50,12 @@ pub fn value(r: Refusal) -> usize
         Refusal::RowCount => 0,
         Refusal::RowOutside(i) => i,
         Refusal::Dependent(i) => i,
+        Refusal::RadiusTooLarge => 0,
         Refusal::TooManyWords => 0,
         Refusal::WordOutside(i) => i,
         Refusal::ShortOutput => 0,
+        Refusal::ShortWork => 0,
         Refusal::NoCodeword(i) => i,
+        Refusal::NoLeader(s) => s,
     }
 }

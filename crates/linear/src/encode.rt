@@ -40,7 +40,7 @@ pub(crate) fn row_sums(rows: &[u32], words: &[u32], out: &mut [u32])
 }
 
 // Causes 6 to 8, for words of so many places and an output list of so many slots.
-pub(crate) fn list_cause(words: &[u32], places: u32, slots: usize) -> Answer
+pub fn list_cause(words: &[u32], places: u32, slots: usize) -> Answer
     ensures { λ r. ⌜ r ≡ listAnswer (now (words .entry)) places slots ⌝ }
 {
     if MAX_WORDS < words.len() {

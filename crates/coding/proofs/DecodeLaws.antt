@@ -1,0 +1,65 @@
+-- Laws of decoding: every syndrome of a matrix has a leader, of weight at most n - k, and a word plus the leader of its syndrome is a
+-- nearest codeword. Assumes nothing.
+use mathlib.Core.Path.{_≡_, refl, sym, ap, _∙_}
+use mathlib.Core.List.{List}
+use mathlib.Core.Option.{Option, none, some}
+use Prim.Native.Nat.{ℕ, _^_, _≤_, _<_}
+use native.Mathlib.Nat.{le-trans}
+use native.Mathlib.Omega.{arith}
+use lib.Dec.{T, eqb→eq, eqb-refl}
+use lib.ListN.{length, length-map}
+use lib.Count.{ones-le}
+use Rattle.coding.specs.Word.{_⊕_, weight, distance}
+use Rattle.coding.specs.Matrix.{Codeword, Inside}
+use Rattle.coding.specs.Reduced.{reduce}
+use Rattle.coding.specs.Check.{check, checks, frees}
+use Rattle.coding.specs.Leader.{syndromeOf, IsLeader, lightestBelow, orNoLeader, having, leaderOf, nearestOf}
+use Rattle.coding.proofs.MatrixLaws.{encode-lt}
+use Rattle.coding.proofs.CheckLaws.{syndrome-xor, syndrome-lt}
+use Rattle.coding.proofs.ReduceLaws.{whole, syndrome-codeword}
+use Rattle.coding.proofs.LeaderLaws.{IsLightest, Found, found, nearest}
+use Rattle.coding.proofs.SpreadLaws.{spread, spread-lt, spread-light, syndrome-spread}
+
+module _ (n : ℕ) (rs : List ℕ) (fits : Inside n rs) where
+  pub codeword-lt : (w : ℕ) → Codeword rs w → w < 2 ^ n
+  codeword-lt w (u, h, e) = rw e (encode-lt n rs fits u)
+
+  -- every syndrome has a leader, no heavier than the syndrome
+  pub leader-lightest : (s : ℕ) → s < 2 ^ length (frees n rs) → IsLightest (having (syndromeOf n rs) s) (2 ^ n) (leaderOf n rs s)
+  leader-lightest s h = go (lightestBelow (having (syndromeOf n rs) s) (2 ^ n)) (found (having (syndromeOf n rs) s) (2 ^ n))
+    where
+      in-n : spread (reduce n rs) s < 2 ^ n
+      in-n = rw (whole n rs fits .reduced .size) at (spread-lt (reduce n rs) s)
+
+      passes : T (having (syndromeOf n rs) s (spread (reduce n rs) s))
+      passes = rw (syndrome-spread (reduce n rs) s h) (eqb-refl s)
+
+      go : (o : Option ℕ) → Found (having (syndromeOf n rs) s) (2 ^ n) o → IsLightest (having (syndromeOf n rs) s) (2 ^ n) (orNoLeader o)
+      go none f = absurd (f (spread (reduce n rs) s) in-n passes)
+      go (some l) f = f
+
+  pub leader-light : (s : ℕ) → s < 2 ^ length (frees n rs) → weight (leaderOf n rs s) ≤ length (frees n rs)
+  leader-light s h =
+      le-trans (leader-lightest s h .light (spread (reduce n rs) s)
+      (rw (whole n rs fits .reduced .size) at (spread-lt (reduce n rs) s)) (rw (syndrome-spread (reduce n rs) s h) (eqb-refl s)))
+      (le-trans (spread-light (reduce n rs) s) (ones-le (length (frees n rs)) s h))
+
+  pub syndromeOf-lt : (w : ℕ) → syndromeOf n rs w < 2 ^ length (frees n rs)
+  syndromeOf-lt w = rw (length-map (frees n rs) (check (reduce n rs))) at (syndrome-lt (checks n rs) w)
+
+  pub near-is : (w : ℕ) → w < 2 ^ n → Codeword rs (nearestOf n rs w) × (distance w (nearestOf n rs w) ≡ weight (leaderOf n rs (syndromeOf n rs w))) × ((c : ℕ) → Codeword rs c → distance w (nearestOf n rs w) ≤ distance w c)
+  near-is w h =
+      nearest n (syndromeOf n rs) (syndrome-xor (checks n rs)) (Codeword rs)
+      (λ v l e. syndrome-codeword n rs fits v l .0 e) (λ v c. (codeword-lt v c, syndrome-codeword n rs fits v (codeword-lt v c) .1 c))
+      w (leaderOf n rs (syndromeOf n rs w)) h (leader-lightest (syndromeOf n rs w) (syndromeOf-lt w))
+
+  -- the leader that the definition finds is the leader
+  pub leader-is : (s : ℕ) → s < 2 ^ length (frees n rs) → IsLeader n rs s (leaderOf n rs s)
+  leader-is s h =
+      let f = leader-lightest s h in
+      record {
+        below = f .below;
+        has = eqb→eq (syndromeOf n rs (leaderOf n rs s)) s (f .passes);
+        lightest = λ v l e. f .light v l (rw e (eqb-refl s));
+        smallest = λ v l e q. f .first v l (rw e (eqb-refl s)) q;
+      }

@@ -1,0 +1,51 @@
+-- 01, part 4: the coset leader of a syndrome, the lightest word having it; of several, the smallest number.
+use mathlib.Core.Path.{_≡_}
+use mathlib.Core.List.{List}
+use mathlib.Core.Option.{Option, none, some}
+use mathlib.Core.Bool.{Bool, true, false}
+use Prim.Native.Nat.{ℕ, zero, suc, _-_, _^_, _≤_, _<_}
+use lib.Dec.{eqb, ltb}
+use Rattle.coding.specs.Lists.{pick}
+use Rattle.coding.specs.Word.{_⊕_, weight}
+use Rattle.coding.specs.Check.{checks, syndrome}
+
+-- the syndrome by the matrix's own check rows
+abbrev pub syndromeOf : ℕ → List ℕ → ℕ → ℕ
+syndromeOf n rows w = syndrome (checks n rows) w
+
+-- l is the leader of the syndrome s
+pub record IsLeader (n : ℕ) (rows : List ℕ) (s l : ℕ) : Type 0 where
+  pub below : l < 2 ^ n
+  pub has : syndromeOf n rows l ≡ s
+  pub lightest : (v : ℕ) → v < 2 ^ n → syndromeOf n rows v ≡ s → weight l ≤ weight v
+  pub smallest : (v : ℕ) → v < 2 ^ n → syndromeOf n rows v ≡ s → weight v ≡ weight l → l ≤ v
+
+-- of the numbers below m that pass a test the lightest, and of several the smallest
+abbrev pub merge : Bool → ℕ → Option ℕ → Option ℕ
+merge false m o = o
+merge true m none = some m
+merge true m (some b) = some (pick (ltb (weight m) (weight b)) m b)
+
+abbrev pub lightestBelow : (ℕ → Bool) → ℕ → Option ℕ
+lightestBelow p zero = none
+lightestBelow p (suc m) = merge (p m) m (lightestBelow p m)
+
+-- the entry of a syndrome that has no leader
+abbrev pub noLeader : ℕ
+noLeader = 2 ^ 32 - 1
+
+abbrev pub orNoLeader : Option ℕ → ℕ
+orNoLeader none = noLeader
+orNoLeader (some l) = l
+
+-- the words that have the syndrome s
+abbrev pub having : (ℕ → ℕ) → ℕ → ℕ → Bool
+having syn s v = eqb (syn v) s
+
+-- the leader of the syndrome s; `leader-is` says that it is the one
+abbrev pub leaderOf : ℕ → List ℕ → ℕ → ℕ
+leaderOf n rows s = orNoLeader (lightestBelow (having (syndromeOf n rows) s) (2 ^ n))
+
+-- 01, part 5, nearest reading: the received word plus the leader of its syndrome
+abbrev pub nearestOf : ℕ → List ℕ → ℕ → ℕ
+nearestOf n rows w = w ⊕ leaderOf n rows (syndromeOf n rows w)

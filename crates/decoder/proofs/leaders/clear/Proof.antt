@@ -1,0 +1,70 @@
+-- `decoder::leaders::clear`: the first i entries are blank. Assumes nothing.
+use mathlib.Core.Path.{_≡_, refl, sym, ap, _∙_}
+use mathlib.Core.List.{List, _++_}
+use Prim.Native.Nat.{ℕ, _≤_, _<_, _-_}
+use lib.ListN.{length, replicate, drop, set, length-set}
+use mathlib.Core.List.{append-nil}
+use lib.Seq.{drop-length}
+use borrow.Author.Fill.{fill-none, fill-more}
+use Rattle.coding.specs.Leader.{noLeader}
+use borrow.Author.Needs.{needs}
+use native.Mathlib.Omega.{arith}
+use Rattle.decoder.proofs.leaders.clear.Statement.{statement}
+use Rattle.decoder.proofs.leaders.clear.Tie as tie
+
+abbrev Inv-loop : tie.InvT-loop
+Inv-loop list₀ i₀ list i = (i ≤ length list₀) × (length list ≡ length list₀) × (list ≡ replicate i noLeader ++ drop i list₀)
+
+abbrev μ-loop : tie.MeasureT-loop
+μ-loop list₀ i₀ list i = length list₀ - i
+
+loop-holds : tie.Need-loop-holds Inv-loop μ-loop
+loop-holds c = search needs
+
+mul-list : tie.Need-mul-list Inv-loop μ-loop
+mul-list c = search needs
+
+slice-write-list : tie.Need-slice-write-list Inv-loop μ-loop
+slice-write-list c = search needs
+
+add-i : tie.Need-add-i Inv-loop μ-loop
+add-i c = search needs
+
+loop-less : tie.Need-loop-less Inv-loop μ-loop
+loop-less c = search needs
+
+loop-again : tie.Need-loop-again Inv-loop μ-loop
+loop-again c =
+    let l = c .before .loop in
+    let s = c .before .before in
+    let h : l .i < length (s .args .list .now) = omega (arith, c .loop-test .taken) in (
+      omega arith,
+      simp length-set (l .inv .1),
+      ap (λ (x : List ℕ). set x (l .i) noLeader) (l .inv .2) ∙ fill-more (l .i) noLeader (s .args .list .now) h,
+    )
+
+same-length : tie.Need-same-length Inv-loop μ-loop
+same-length c = search needs
+
+returns : tie.Need-returns Inv-loop μ-loop
+returns c =
+    let l = c .before .loop in
+    let list = c .before .before .args .list .now in
+    let e : l .i ≡ length (c .before .before .args .list .now) = omega (arith, c .loop-test .left, l .inv .0, l .inv .1) in
+    l .inv .2 ∙ ap (λ (i : ℕ). replicate i noLeader ++ drop i list) e
+    ∙ ap (λ (t : List ℕ). replicate (length list) noLeader ++ t) (drop-length list) ∙ append-nil (replicate (length list) noLeader)
+
+pub clear-spec : {M : Type 1} → statement M
+clear-spec =
+    tie.close
+    (tie.spec
+    Inv-loop
+    μ-loop
+    loop-holds
+    mul-list
+    slice-write-list
+    add-i
+    loop-less
+    loop-again
+    same-length
+    returns)

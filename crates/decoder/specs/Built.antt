@@ -1,0 +1,32 @@
+-- What the build of the leaders asks and leaves at each step.
+use mathlib.Core.Path.{_≡_}
+use mathlib.Core.List.{List, map}
+use Prim.Native.Nat.{ℕ, _+_, _*_, _^_, _≤_, _<_}
+use lib.ListN.{length}
+use Rattle.coding.specs.Lists.{tabulate}
+use Rattle.coding.specs.Word.{weight}
+use Rattle.coding.specs.Matrix.{encode}
+use Rattle.coding.specs.Check.{syndrome}
+use Rattle.coding.specs.Order.{words, fills, blankCount}
+
+-- the syndromes of the words with a single one
+unfoldable pub columnsOf : List ℕ → List ℕ
+columnsOf checks = tabulate (λ p. syndrome checks (2 ^ p)) 32
+
+-- the words prefix + w of m places and weight t more are to be tried: the prefix has its ones at place m or beyond and its syndrome is s,
+-- every syndrome has an entry, and `blank` entries are blank
+pub record Trying (list cols : List ℕ) (m t prefix s blank : ℕ) : Type 0 where
+  pub columns : length cols ≡ 32
+  pub places : m ≤ 32
+  pub some : 1 ≤ t
+  pub above : (a : ℕ) × (prefix ≡ a * 2 ^ m)
+  pub room : prefix + 2 ^ m ≤ 2 ^ 32
+  pub light : weight prefix + t < 32
+  pub at : s ≡ encode cols prefix
+  pub entries : (w : ℕ) → encode cols w < length list
+  pub left : blank ≡ blankCount list
+
+-- they have been tried
+pub record Tried (before cols : List ℕ) (m t prefix : ℕ) (after : List ℕ) (blank : ℕ) : Type 0 where
+  pub filled : after ≡ fills (encode cols) before (map (λ w. prefix + w) (words m t))
+  pub left : blank ≡ blankCount after

@@ -1,0 +1,130 @@
+// Part 4: the leaders. The words are tried by rising weight, of equal weight by rising number, with the syndrome kept along by one
+// column a step; a word takes the entry of its syndrome where that is blank, and the build ends when none is.
+use linear::check::syndrome;
+use linear::limits::MAX_CHECKS;
+use linear::limits::WIDTH;
+ghost use mathlib.Core.Path.{_≡_};
+ghost use mathlib.Core.List.{map};
+ghost use mathlib.Core.Bool.{not};
+ghost use Prim.Native.Nat.{ℕ, suc, _+_, _<_, _≤_, _^_};
+ghost use lib.Dec.{eqb};
+ghost use lib.ListN.{length, getD};
+ghost use Rattle.coding.specs.Lists.{first};
+ghost use Rattle.coding.specs.Matrix.{encode};
+ghost use Rattle.coding.specs.Check.{syndrome};
+ghost use Rattle.coding.specs.Leader.{noLeader};
+ghost use Rattle.coding.specs.Order.{words, order, fills, blanks};
+ghost use Rattle.decoder.specs.Built.{columnsOf, Trying, Tried};
+
+// The entry of a syndrome that has no leader yet.
+const BLANK: u32 = 4294967295;
+
+// Entry p is the syndrome of the word with a one at place p alone.
+fn columns(checks: &[u32; MAX_CHECKS]) -> [u32; WIDTH]
+    ensures { λ r. ⌜ r ≡ columnsOf (now (checks .entry)) ⌝ }
+{
+    let mut cols = [0u32; WIDTH];
+    let mut p: usize = 0;
+    while p < WIDTH {
+        cols[p] = syndrome(checks, 1u32 << p);
+        p += 1;
+    }
+    cols
+}
+
+fn clear(list: &mut [u32])
+    ensures { λ _. ⌜ now (list .exit) ≡ blanks (length (now (list .entry))) ⌝ }
+{
+    let mut i: usize = 0;
+    while i < list.len() {
+        list[i] = BLANK;
+        i += 1;
+    }
+}
+
+// The words prefix + 2^p for the places p below m, in rising order; answers how many entries are still blank.
+fn fill_units(list: &mut [u32], cols: &[u32], m: usize, prefix: u32, s: u32, blank: u32) -> u32
+    requires { ⌜ Trying (now list) (now cols) m 1 prefix s blank ⌝ }
+    ensures { λ r. ⌜ Tried (now (list .entry)) (now (cols .entry)) m 1 prefix (now (list .exit)) r ⌝ }
+{
+    let mut left = blank;
+    let mut p: usize = 0;
+    while p < m {
+        let x = (s ^ cols[p]) as usize;
+        if list[x] == BLANK {
+            list[x] = prefix + (1u32 << p);
+            left -= 1;
+            if left == 0 {
+                return 0;
+            }
+        }
+        p += 1;
+    }
+    left
+}
+
+// The words of m places and weight t, in rising order, with the prefix added: first those without the highest place, then those
+// with it; answers how many entries are still blank.
+fn fill_words(
+    list: &mut [u32],
+    cols: &[u32],
+    m: usize,
+    t: usize,
+    prefix: u32,
+    s: u32,
+    blank: u32,
+) -> u32
+    requires { ⌜ Trying (now list) (now cols) m t prefix s blank ⌝ }
+    ensures { λ r. ⌜ Tried (now (list .entry)) (now (cols .entry)) m t prefix (now (list .exit)) r ⌝ }
+{
+    if blank == 0 {
+        return 0;
+    }
+    if m < t {
+        return blank;
+    }
+    if t == 1 {
+        return fill_units(list, cols, m, prefix, s, blank);
+    }
+    let k = m - 1;
+    let left = fill_words(list, cols, k, t, prefix, s, blank);
+    fill_words(
+        list,
+        cols,
+        k,
+        t - 1,
+        prefix + (1u32 << k),
+        s ^ cols[k],
+        left,
+    )
+}
+
+// The list of the leaders: every word of n places and weight up to c has been offered.
+fn fill_list(list: &mut [u32], cols: &[u32], n: usize, c: usize)
+    requires { ⌜ (length (now cols) ≡ 32) × (n ≤ 32) × (c < 32) × (0 < length (now list)) × (length (now list) < 2 ^ 32) ⌝ }
+    requires { ⌜ ((w : ℕ) → encode (now cols) w < length (now list)) ⌝ }
+    ensures { λ _. ⌜ now (list .exit) ≡ fills (encode (now (cols .entry))) (blanks (length (now (list .entry)))) (order n (suc c)) ⌝ }
+{
+    clear(list);
+    list[0] = 0;
+    let mut left = (list.len() - 1) as u32;
+    let mut t: usize = 1;
+    while t <= c {
+        left = fill_words(list, cols, n, t, 0, 0, left);
+        t += 1;
+    }
+}
+
+// The first entry that is blank, or the number of entries where none is.
+fn first_blank(list: &[u32]) -> usize
+    ensures { λ r. ⌜ r ≡ first (λ s. eqb (getD (now (list .entry)) s 0) noLeader) (length (now (list .entry))) ⌝ }
+{
+    let mut s: usize = 0;
+    while s < list.len() {
+        if list[s] == BLANK {
+            return s;
+        }
+        s += 1;
+    }
+    s
+}
