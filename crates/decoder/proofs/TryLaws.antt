@@ -12,7 +12,7 @@ use lib.Pow.{pow-lt, pow-pos, pow-mono}
 use lib.Bits.{xor-shifted}
 use lib.Count.{ones-cat, ones-ones}
 use Rattle.coding.specs.Word.{_⊕_, weight}
-use Rattle.coding.specs.Matrix.{encode}
+use Rattle.coding.specs.Matrix.{encode, Inside}
 use Rattle.coding.specs.Check.{syndrome}
 use Rattle.coding.specs.Leader.{noLeader}
 use Rattle.coding.specs.Order.{words, order, fill, fills, blanks, blankCount}
@@ -37,6 +37,9 @@ columns-at checks p h = getD-tabulate (λ p. syndrome checks (2 ^ p)) 32 p h
 pub columns-encode : (checks : List ℕ) (w : ℕ) → w < 2 ^ 32 → encode (columnsOf checks) w ≡ syndrome checks w
 unfolding columnsOf
 columns-encode checks w h = syndrome-columns checks 32 w h
+
+pub columns-inside : (checks : List ℕ) (c : ℕ) → ((w : ℕ) → syndrome checks w < 2 ^ c) → Inside c (columnsOf checks)
+columns-inside checks c f p h = rw (columns-at checks p (rw (columns-long checks) at h)) (f (2 ^ p))
 
 -- ---- a place p below m is added to the prefix
 

@@ -1,13 +1,15 @@
 -- What the build of the leaders asks and leaves at each step.
 use mathlib.Core.Path.{_≡_}
 use mathlib.Core.List.{List, map}
-use Prim.Native.Nat.{ℕ, _+_, _*_, _^_, _≤_, _<_}
-use lib.ListN.{length}
-use Rattle.coding.specs.Lists.{tabulate}
+use Prim.Native.Nat.{ℕ, suc, _+_, _*_, _^_, _≤_, _<_}
+use lib.Dec.{eqb}
+use lib.ListN.{length, getD}
+use Rattle.coding.specs.Lists.{first, tabulate}
 use Rattle.coding.specs.Word.{weight}
 use Rattle.coding.specs.Matrix.{encode}
 use Rattle.coding.specs.Check.{syndrome}
-use Rattle.coding.specs.Order.{words, fills, blankCount}
+use Rattle.coding.specs.Leader.{noLeader}
+use Rattle.coding.specs.Order.{words, order, fills, blanks, blankCount}
 
 -- the syndromes of the words with a single one
 unfoldable pub columnsOf : List ℕ → List ℕ
@@ -30,3 +32,8 @@ pub record Trying (list cols : List ℕ) (m t prefix s blank : ℕ) : Type 0 whe
 pub record Tried (before cols : List ℕ) (m t prefix : ℕ) (after : List ℕ) (blank : ℕ) : Type 0 where
   pub filled : after ≡ fills (encode cols) before (map (λ w. prefix + w) (words m t))
   pub left : blank ≡ blankCount after
+
+-- every word of n places and weight up to c has been tried, and r is the first entry that is blank, or the number of entries
+pub record BuiltList (checks : List ℕ) (n c : ℕ) (list : List ℕ) (r : ℕ) : Type 0 where
+  pub filled : list ≡ fills (encode (columnsOf checks)) (blanks (2 ^ c)) (order n (suc c))
+  pub blank : r ≡ first (λ s. eqb (getD list s 0) noLeader) (length list)

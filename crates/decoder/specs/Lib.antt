@@ -1,2 +1,4 @@
 pub mod Outcome
 pub mod Built
+pub mod Causes
+pub mod Decoded

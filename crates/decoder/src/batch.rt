@@ -1,1 +1,80 @@
-//
+// Decode: a batch of received words, read as the nearest codewords or within a radius.
+use crate::causes::batch_cause;
+use crate::leaders::build;
+use crate::outcomes::Reading;
+use crate::outcomes::count_in;
+use crate::outcomes::judged;
+use crate::outcomes::word_in;
+use linear::answer::Answer;
+use linear::answer::Refusal;
+use linear::check::parity_checks;
+use linear::check::syndrome;
+use linear::limits::MAX_CHECKS;
+ghost use mathlib.Core.Path.{_≡_};
+ghost use mathlib.Core.List.{map, _++_};
+ghost use Prim.Native.Nat.{ℕ, _≤_, _<_};
+ghost use lib.ListN.{length, drop};
+ghost use Rattle.coding.specs.Check.{syndrome};
+ghost use Rattle.decoder.specs.Decoded.{wordBy, countBy, Decoded};
+
+// Each word is decoded with its leader; the later slots keep their values.
+fn decode_words(
+    checks: &[u32; MAX_CHECKS],
+    reading: Reading,
+    words: &[u32],
+    leaders: &[u32],
+    out: &mut [u32],
+    counts: &mut [u8],
+)
+    requires { ⌜ (length (now words) ≤ length (now out)) × (length (now words) ≤ length (now counts)) ⌝ }
+    requires { ⌜ ((w : ℕ) → syndrome (now checks) w < length (now leaders)) ⌝ }
+    ensures { λ _. ⌜ now (out .exit) ≡ map (wordBy reading (now (leaders .entry)) (now (checks .entry))) (now (words .entry)) ++ drop (length (now (words .entry))) (now (out .entry)) ⌝ }
+    ensures { λ _. ⌜ now (counts .exit) ≡ map (countBy reading (now (leaders .entry)) (now (checks .entry))) (now (words .entry)) ++ drop (length (now (words .entry))) (now (counts .entry)) ⌝ }
+{
+    let mut i: usize = 0;
+    while i < words.len() {
+        let w = words[i];
+        let s = syndrome(checks, w) as usize;
+        let o = judged(reading, w, leaders[s]);
+        out[i] = word_in(o, w);
+        counts[i] = count_in(o);
+        i += 1;
+    }
+}
+
+// Decodes the words: codewords and counts into the first two lists, the leaders into the third.
+pub fn decode(
+    n: u32,
+    k: u32,
+    rows: &[u32],
+    reading: Reading,
+    words: &[u32],
+    out: &mut [u32],
+    counts: &mut [u8],
+    work: &mut [u32],
+) -> Answer
+    ensures { λ r. ⌜ Decoded n k (now (rows .entry)) reading (now (words .entry)) (now (out .entry)) (now (counts .entry)) (now (work .entry)) r (now (out .exit)) (now (counts .exit)) (now (work .exit)) ⌝ }
+{
+    let a = batch_cause(
+        n,
+        k,
+        rows,
+        reading,
+        words,
+        out.len(),
+        counts.len(),
+        work.len(),
+    );
+    let Answer::Done = a else {
+        return a;
+    };
+    let c = parity_checks(n, k, rows);
+    let checks = c.rows;
+    let size = 1usize << (n - k);
+    let bad = build(&checks, n as usize, (n - k) as usize, &mut work[..size]);
+    if bad != size {
+        return Answer::Refused(Refusal::NoLeader(bad));
+    }
+    decode_words(&checks, reading, words, &work[..size], out, counts);
+    Answer::Done
+}

@@ -14,7 +14,7 @@ ghost use Rattle.coding.specs.Matrix.{encode};
 ghost use Rattle.coding.specs.Check.{syndrome};
 ghost use Rattle.coding.specs.Leader.{noLeader};
 ghost use Rattle.coding.specs.Order.{words, order, fills, blanks};
-ghost use Rattle.decoder.specs.Built.{columnsOf, Trying, Tried};
+ghost use Rattle.decoder.specs.Built.{columnsOf, Trying, Tried, BuiltList};
 
 // The entry of a syndrome that has no leader yet.
 const BLANK: u32 = 4294967295;
@@ -127,4 +127,14 @@ fn first_blank(list: &[u32]) -> usize
         s += 1;
     }
     s
+}
+
+// The list becomes the leaders; answers the first syndrome that has none, or the number of syndromes.
+pub(crate) fn build(checks: &[u32; MAX_CHECKS], n: usize, c: usize, list: &mut [u32]) -> usize
+    requires { ⌜ (n ≤ 32) × (c < 32) × (length (now list) ≡ 2 ^ c) × ((w : ℕ) → syndrome (now checks) w < 2 ^ c) ⌝ }
+    ensures { λ r. ⌜ BuiltList (now (checks .entry)) n c (now (list .exit)) r ⌝ }
+{
+    let cols = columns(checks);
+    fill_list(list, &cols, n, c);
+    first_blank(list)
 }

@@ -1,0 +1,81 @@
+-- What Decode promises, put together from its causes and from what the lists hold. Assumes nothing.
+use mathlib.Core.Path.{_≡_, refl, sym, ap, _∙_}
+use mathlib.Core.List.{List, _++_, map}
+use Prim.Native.Nat.{ℕ, _-_, _^_, _<_}
+use native.Mathlib.Omega.{arith}
+use lib.Dec.{eqb}
+use lib.ListN.{length, getD, drop, List·getD-append}
+use Rattle.coding.specs.Lists.{tabulate}
+use Rattle.coding.specs.Leader.{leaderOf}
+use Rattle.coding.specs.Weight.{dmin}
+use Rattle.coding.proofs.CountLaws.{length-tabulate, getD-tabulate}
+use Rattle.linear.specs.Refusal.{numberOf, andThen}
+use Rattle.linear.specs.Accepted.{Accepted}
+use Rattle.linear.specs.declared.answer.Refusal.{Refusal}
+use Rattle.linear.specs.declared.answer.Answer.{Answer}
+use Rattle.linear.specs.declared.answer.Answer.the-variants.{Done, Refused}
+use Rattle.linear.proofs.AcceptLaws.{accepted-in, refused-done}
+use Rattle.linear.proofs.ListLaws.{stays, goes, kept, written}
+use Rattle.decoder.specs.Causes.{radiusAnswer, batchAnswer, leaderAnswer}
+use Rattle.decoder.specs.Decoded.{wordOf, countOf, workAfter, Decoded}
+use Rattle.decoder.specs.declared.outcomes.Reading.{Reading}
+use Rattle.decoder.specs.declared.outcomes.Reading.the-variants.{Nearest, Within}
+use Rattle.decoder.proofs.CauseLaws.{Passed, batch-in, batch-early, radius-in}
+use Rattle.decoder.proofs.DecodedLaws.{leader-at, leader-passes, slot-at, nearest-rule, radius-rule, clean-rule}
+
+module _ (n k : ℕ) (rows : List ℕ) (reading : Reading) (words out counts work : List ℕ) where
+  -- causes 1 to 9 leave every list as it was
+  pub decode-refused : (r : Answer) (c : Refusal) → r ≡ Refused c → r ≡ batchAnswer n k rows reading words (length out) (length counts) (length work)
+      → Decoded n k rows reading words out counts work r out counts work
+  decode-refused r c e b =
+      let q : batchAnswer n k rows reading words (length out) (length counts) (length work) ≡ Refused c = sym b ∙ e in
+      record {
+        answer = b ∙ stays (batchAnswer n k rows reading words (length out) (length counts) (length work)) (leaderAnswer n k rows) c q;
+        codewords = kept r c e _ out;
+        distances = kept r c e _ counts;
+        leaders = rw e (simp (batch-early n k rows reading words (length out) (length counts) (length work) c q) refl);
+        leader = λ d. refused-done (sym e ∙ d);
+        nearest = λ d. refused-done (sym e ∙ d);
+        within = λ d. refused-done (sym e ∙ d);
+        clean = λ d. refused-done (sym e ∙ d);
+      }
+
+  module _ (b : batchAnswer n k rows reading words (length out) (length counts) (length work) ≡ Done) where
+    passed : Passed n k rows reading words (length out) (length counts) (length work)
+    passed = batch-in n k rows reading words (length out) (length counts) (length work) b
+
+    pub past-causes : Accepted n k rows
+    past-causes = accepted-in n k rows (passed .matrix)
+
+    -- on success the lists are those of the definitions, and demand 3 holds word by word
+    pub decode-done : (out′ counts′ work′ : List ℕ)
+        → out′ ≡ map (wordOf n rows reading) words ++ drop (length words) out
+        → counts′ ≡ map (countOf n rows reading) words ++ drop (length words) counts
+        → work′ ≡ tabulate (leaderOf n rows) (2 ^ (n - k)) ++ drop (2 ^ (n - k)) work
+        → Decoded n k rows reading words out counts work Done out′ counts′ work′
+    decode-done out′ counts′ work′ eo ec ew = record {
+      answer = sym (leader-passes n k rows A) ∙ goes (batchAnswer n k rows reading words (length out) (length counts) (length work)) (leaderAnswer n k rows) b;
+      codewords = written (wordOf n rows reading) words out out′ eo;
+      distances = written (countOf n rows reading) words counts counts′ ec;
+      leaders = ew;
+      leader = λ _ s h. rw (leader-slot s h) (leader-at n k rows A s h);
+      nearest = λ _ e i h. rw (out-slot i h, count-slot i h, e) (nearest-rule n k rows A (getD words i 0) (passed .listed .inside i h));
+      within = λ _ ρ e i h. rw (out-slot i h, count-slot i h, e)
+          (radius-rule n k rows A (getD words i 0) (passed .listed .inside i h) ρ (radius-in ρ (dmin rows) (rw e at (passed .radius))));
+      clean = λ _ i h. rw (count-slot i h) (clean-rule n k rows A reading (getD words i 0));
+    }
+      where
+        A : Accepted n k rows
+        A = past-causes
+
+        out-slot : (i : ℕ) → i < length words → getD out′ i 0 ≡ wordOf n rows reading (getD words i 0)
+        out-slot i h = ap (λ (l : List ℕ). getD l i 0) eo ∙ slot-at (wordOf n rows reading) words (drop (length words) out) i h
+
+        count-slot : (i : ℕ) → i < length words → getD counts′ i 0 ≡ countOf n rows reading (getD words i 0)
+        count-slot i h = ap (λ (l : List ℕ). getD l i 0) ec ∙ slot-at (countOf n rows reading) words (drop (length words) counts) i h
+
+        leader-slot : (s : ℕ) → s < 2 ^ (n - k) → getD work′ s 0 ≡ leaderOf n rows s
+        leader-slot s h =
+            ap (λ (l : List ℕ). getD l s 0) ew
+            ∙ List·getD-append (tabulate (leaderOf n rows) (2 ^ (n - k))) (drop (2 ^ (n - k)) work) 0 s (rw (length-tabulate (leaderOf n rows) (2 ^ (n - k))) h)
+            ∙ getD-tabulate (leaderOf n rows) (2 ^ (n - k)) s h

@@ -1,0 +1,172 @@
+-- `decoder::batch::decode`: the causes, the build, then the words. Assumes nothing.
+use mathlib.Core.Path.{_≡_, refl, sym, ap, _∙_}
+use Prim.Native.Nat.{ℕ, _-_, _^_}
+use native.Mathlib.Omega.{arith}
+use lib.ListN.{length}
+use lib.Seq.{length-take-le}
+use Rattle.decoder.proofs.PromiseLaws.{decode-refused}
+use Rattle.decoder.proofs.StepLaws.{places-fit, rows-fit, checks-fit, size-is, work-fits, words-fit, syndromes-fit, list-long, list-full, work-long, leaders-lent, decode-ends}
+use borrow.Author.Needs.{needs}
+use Rattle.decoder.proofs.batch.decode.Statement.{statement}
+use Rattle.decoder.proofs.batch.decode.Tie as tie
+
+batch-cause-requires : tie.Need-batch-cause-requires
+batch-cause-requires c κs = search needs
+
+enum-told : tie.Need-enum-told
+enum-told c = search needs
+
+enum-told-2 : tie.Need-enum-told-2
+enum-told-2 c = search needs
+
+returns : tie.Need-returns
+returns c =
+    let s = c .before .before .before .before .before .before .before .before in
+    decode-refused (s .args .n) (s .args .k) (s .args .rows .now) (s .args .reading) (s .args .words .now) (s .args .out .now) (s .args .counts .now) (s .args .work .now)
+    (c .before .before .batch-cause .result) _ (c .enum-told2 .given .1) (c .before .before .batch-cause .ensures)
+
+parity-checks-requires : tie.Need-parity-checks-requires
+parity-checks-requires c κs = search needs
+
+sub-size : tie.Need-sub-size
+sub-size c =
+    let t = c .before .before in
+    let s = t .before .before .before .before .before .before .before .before in
+    rows-fit (s .args .n) (s .args .k) (s .args .rows .now) (s .args .reading) (s .args .words .now) (s .args .out .now) (s .args .counts .now) (s .args .work .now) (t .before .before .batch-cause .result) (t .enum-told .given .1) (t .before .before .batch-cause .ensures)
+
+cast-size : tie.Need-cast-size
+cast-size c =
+    let t = c .before .before in
+    let s = t .before .before .before .before .before .before .before .before in
+    omega (arith, checks-fit (s .args .n) (s .args .k) (s .args .rows .now) (s .args .reading) (s .args .words .now) (s .args .out .now) (s .args .counts .now) (s .args .work .now) (t .before .before .batch-cause .result) (t .enum-told .given .1) (t .before .before .batch-cause .ensures))
+
+shl-size : tie.Need-shl-size
+shl-size c =
+    let t = c .before .before in
+    let s = t .before .before .before .before .before .before .before .before in
+    omega (arith, checks-fit (s .args .n) (s .args .k) (s .args .rows .now) (s .args .reading) (s .args .words .now) (s .args .out .now) (s .args .counts .now) (s .args .work .now) (t .before .before .batch-cause .result) (t .enum-told .given .1) (t .before .before .batch-cause .ensures))
+
+sub-build : tie.Need-sub-build
+sub-build c =
+    let t = c .before .before .before in
+    let s = t .before .before .before .before .before .before .before .before in
+    rows-fit (s .args .n) (s .args .k) (s .args .rows .now) (s .args .reading) (s .args .words .now) (s .args .out .now) (s .args .counts .now) (s .args .work .now) (t .before .before .batch-cause .result) (t .enum-told .given .1) (t .before .before .batch-cause .ensures)
+
+cast-build : tie.Need-cast-build
+cast-build c =
+    let t = c .before .before .before in
+    let s = t .before .before .before .before .before .before .before .before in
+    omega (arith, checks-fit (s .args .n) (s .args .k) (s .args .rows .now) (s .args .reading) (s .args .words .now) (s .args .out .now) (s .args .counts .now) (s .args .work .now) (t .before .before .batch-cause .result) (t .enum-told .given .1) (t .before .before .batch-cause .ensures))
+
+slice-relend-prefix-build : tie.Need-slice-relend-prefix-build
+slice-relend-prefix-build c =
+    let t = c .before .before .before in
+    let s = t .before .before .before .before .before .before .before .before in
+    rw (size-is (s .args .n) (s .args .k) (s .args .rows .now) (s .args .reading) (s .args .words .now) (s .args .out .now) (s .args .counts .now) (s .args .work .now) (t .before .before .batch-cause .result) (t .enum-told .given .1) (t .before .before .batch-cause .ensures)) (work-fits (s .args .n) (s .args .k) (s .args .rows .now) (s .args .reading) (s .args .words .now) (s .args .out .now) (s .args .counts .now) (s .args .work .now) (t .before .before .batch-cause .result) (t .enum-told .given .1) (t .before .before .batch-cause .ensures))
+
+slice-aggregate-build : tie.Need-slice-aggregate-build
+slice-aggregate-build c =
+    let t = c .before .before .before .before in
+    let s = t .before .before .before .before .before .before .before .before in
+    rw (size-is (s .args .n) (s .args .k) (s .args .rows .now) (s .args .reading) (s .args .words .now) (s .args .out .now) (s .args .counts .now) (s .args .work .now) (t .before .before .batch-cause .result) (t .enum-told .given .1) (t .before .before .batch-cause .ensures)) (sym (length-take-le (2 ^ (s .args .n - s .args .k)) (s .args .work .now) (work-fits (s .args .n) (s .args .k) (s .args .rows .now) (s .args .reading) (s .args .words .now) (s .args .out .now) (s .args .counts .now) (s .args .work .now) (t .before .before .batch-cause .result) (t .enum-told .given .1) (t .before .before .batch-cause .ensures))))
+
+build-requires : tie.Need-build-requires
+build-requires c κs =
+    let t = c .before .before .before .before in
+    let s = t .before .before .before .before .before .before .before .before in
+    let p = c .before .before .before .parity-checks in
+    rw (size-is (s .args .n) (s .args .k) (s .args .rows .now) (s .args .reading) (s .args .words .now) (s .args .out .now) (s .args .counts .now) (s .args .work .now) (t .before .before .batch-cause .result) (t .enum-told .given .1) (t .before .before .batch-cause .ensures))
+    (places-fit (s .args .n) (s .args .k) (s .args .rows .now) (s .args .reading) (s .args .words .now) (s .args .out .now) (s .args .counts .now) (s .args .work .now) (t .before .before .batch-cause .result) (t .enum-told .given .1) (t .before .before .batch-cause .ensures), checks-fit (s .args .n) (s .args .k) (s .args .rows .now) (s .args .reading) (s .args .words .now) (s .args .out .now) (s .args .counts .now) (s .args .work .now) (t .before .before .batch-cause .result) (t .enum-told .given .1) (t .before .before .batch-cause .ensures), length-take-le (2 ^ (s .args .n - s .args .k)) (s .args .work .now) (work-fits (s .args .n) (s .args .k) (s .args .rows .now) (s .args .reading) (s .args .words .now) (s .args .out .now) (s .args .counts .now) (s .args .work .now) (t .before .before .batch-cause .result) (t .enum-told .given .1) (t .before .before .batch-cause .ensures)), syndromes-fit (s .args .n) (s .args .k) (s .args .rows .now) (s .args .reading) (s .args .words .now) (s .args .out .now) (s .args .counts .now) (s .args .work .now) (t .before .before .batch-cause .result) (t .enum-told .given .1) (t .before .before .batch-cause .ensures) (p .result) (p .ensures))
+
+same-length : tie.Need-same-length
+same-length c =
+    let t = c .before .before .before .before .before .before .before .before in
+    let s = t .before .before .before .before .before .before .before .before in
+    let p = c .before .before .before .before .before .before .before .parity-checks in
+    let b = c .before .before .before .build in
+    rw (size-is (s .args .n) (s .args .k) (s .args .rows .now) (s .args .reading) (s .args .words .now) (s .args .out .now) (s .args .counts .now) (s .args .work .now) (t .before .before .batch-cause .result) (t .enum-told .given .1) (t .before .before .batch-cause .ensures)) (work-long (s .args .n) (s .args .k) (s .args .rows .now) (s .args .reading) (s .args .words .now) (s .args .out .now) (s .args .counts .now) (s .args .work .now) (t .before .before .batch-cause .result) (t .enum-told .given .1) (t .before .before .batch-cause .ensures) (p .result) (p .ensures) (b .last .1 .1 .1 .0) (b .result) (b .ensures))
+
+returns-2 : tie.Need-returns-2
+returns-2 c =
+    let t = c .before .before .before .before .before .before .before .before in
+    let s = t .before .before .before .before .before .before .before .before in
+    let p = c .before .before .before .before .before .before .before .parity-checks in
+    let b = c .before .before .before .build in
+    absurd (c .if1 .taken (list-full (s .args .n) (s .args .k) (s .args .rows .now) (s .args .reading) (s .args .words .now) (s .args .out .now) (s .args .counts .now) (s .args .work .now) (t .before .before .batch-cause .result) (t .enum-told .given .1) (t .before .before .batch-cause .ensures) (p .result) (p .ensures) (b .last .1 .1 .1 .0) (b .result) (b .ensures) ∙ sym (size-is (s .args .n) (s .args .k) (s .args .rows .now) (s .args .reading) (s .args .words .now) (s .args .out .now) (s .args .counts .now) (s .args .work .now) (t .before .before .batch-cause .result) (t .enum-told .given .1) (t .before .before .batch-cause .ensures))))
+
+slice-reshare-prefix-decode-words : tie.Need-slice-reshare-prefix-decode-words
+slice-reshare-prefix-decode-words c =
+    let t = c .before .before .before .before .before .before .before .before .before in
+    let s = t .before .before .before .before .before .before .before .before in
+    let p = c .before .before .before .before .before .before .before .before .parity-checks in
+    let b = c .before .before .before .before .build in
+    rw (size-is (s .args .n) (s .args .k) (s .args .rows .now) (s .args .reading) (s .args .words .now) (s .args .out .now) (s .args .counts .now) (s .args .work .now) (t .before .before .batch-cause .result) (t .enum-told .given .1) (t .before .before .batch-cause .ensures), work-long (s .args .n) (s .args .k) (s .args .rows .now) (s .args .reading) (s .args .words .now) (s .args .out .now) (s .args .counts .now) (s .args .work .now) (t .before .before .batch-cause .result) (t .enum-told .given .1) (t .before .before .batch-cause .ensures) (p .result) (p .ensures) (b .last .1 .1 .1 .0) (b .result) (b .ensures)) (work-fits (s .args .n) (s .args .k) (s .args .rows .now) (s .args .reading) (s .args .words .now) (s .args .out .now) (s .args .counts .now) (s .args .work .now) (t .before .before .batch-cause .result) (t .enum-told .given .1) (t .before .before .batch-cause .ensures))
+
+slice-aggregate-decode-words : tie.Need-slice-aggregate-decode-words
+slice-aggregate-decode-words c =
+    let t = c .before .before .before .before .before .before .before .before .before .before in
+    let s = t .before .before .before .before .before .before .before .before in
+    let p = c .before .before .before .before .before .before .before .before .before .parity-checks in
+    let b = c .before .before .before .before .before .build in
+    rw (size-is (s .args .n) (s .args .k) (s .args .rows .now) (s .args .reading) (s .args .words .now) (s .args .out .now) (s .args .counts .now) (s .args .work .now) (t .before .before .batch-cause .result) (t .enum-told .given .1) (t .before .before .batch-cause .ensures)) (sym (ap length (leaders-lent (s .args .n) (s .args .k) (s .args .rows .now) (s .args .reading) (s .args .words .now) (s .args .out .now) (s .args .counts .now) (s .args .work .now) (t .before .before .batch-cause .result) (t .enum-told .given .1) (t .before .before .batch-cause .ensures) (p .result) (p .ensures) (b .last .1 .1 .1 .0) (b .result) (b .ensures)) ∙ list-long (s .args .n) (s .args .k) (s .args .rows .now) (s .args .reading) (s .args .words .now) (s .args .out .now) (s .args .counts .now) (s .args .work .now) (t .before .before .batch-cause .result) (t .enum-told .given .1) (t .before .before .batch-cause .ensures) (p .result) (p .ensures) (b .last .1 .1 .1 .0) (b .result) (b .ensures)))
+
+decode-words-requires : tie.Need-decode-words-requires
+decode-words-requires c κs =
+    let t = c .before .before .before .before .before .before .before .before .before .before .before .before in
+    let s = t .before .before .before .before .before .before .before .before in
+    let p = c .before .before .before .before .before .before .before .before .before .before .before .parity-checks in
+    let b = c .before .before .before .before .before .before .before .build in
+    (words-fit (s .args .n) (s .args .k) (s .args .rows .now) (s .args .reading) (s .args .words .now) (s .args .out .now) (s .args .counts .now) (s .args .work .now) (t .before .before .batch-cause .result) (t .enum-told .given .1) (t .before .before .batch-cause .ensures), rw (size-is (s .args .n) (s .args .k) (s .args .rows .now) (s .args .reading) (s .args .words .now) (s .args .out .now) (s .args .counts .now) (s .args .work .now) (t .before .before .batch-cause .result) (t .enum-told .given .1) (t .before .before .batch-cause .ensures), leaders-lent (s .args .n) (s .args .k) (s .args .rows .now) (s .args .reading) (s .args .words .now) (s .args .out .now) (s .args .counts .now) (s .args .work .now) (t .before .before .batch-cause .result) (t .enum-told .given .1) (t .before .before .batch-cause .ensures) (p .result) (p .ensures) (b .last .1 .1 .1 .0) (b .result) (b .ensures), list-long (s .args .n) (s .args .k) (s .args .rows .now) (s .args .reading) (s .args .words .now) (s .args .out .now) (s .args .counts .now) (s .args .work .now) (t .before .before .batch-cause .result) (t .enum-told .given .1) (t .before .before .batch-cause .ensures) (p .result) (p .ensures) (b .last .1 .1 .1 .0) (b .result) (b .ensures)) (syndromes-fit (s .args .n) (s .args .k) (s .args .rows .now) (s .args .reading) (s .args .words .now) (s .args .out .now) (s .args .counts .now) (s .args .work .now) (t .before .before .batch-cause .result) (t .enum-told .given .1) (t .before .before .batch-cause .ensures) (p .result) (p .ensures)))
+
+same-length-2 : tie.Need-same-length-2
+same-length-2 c = search needs
+
+same-length-3 : tie.Need-same-length-3
+same-length-3 c = search needs
+
+same-length-4 : tie.Need-same-length-4
+same-length-4 c =
+    let t = c .before .before .before .before .before .before .before .before .before .before .before .before .before .before .before .before .before in
+    let s = t .before .before .before .before .before .before .before .before in
+    let p = c .before .before .before .before .before .before .before .before .before .before .before .before .before .before .before .before .parity-checks in
+    let b = c .before .before .before .before .before .before .before .before .before .before .before .before .build in
+    rw (size-is (s .args .n) (s .args .k) (s .args .rows .now) (s .args .reading) (s .args .words .now) (s .args .out .now) (s .args .counts .now) (s .args .work .now) (t .before .before .batch-cause .result) (t .enum-told .given .1) (t .before .before .batch-cause .ensures)) (work-long (s .args .n) (s .args .k) (s .args .rows .now) (s .args .reading) (s .args .words .now) (s .args .out .now) (s .args .counts .now) (s .args .work .now) (t .before .before .batch-cause .result) (t .enum-told .given .1) (t .before .before .batch-cause .ensures) (p .result) (p .ensures) (b .last .1 .1 .1 .0) (b .result) (b .ensures))
+
+returns-3 : tie.Need-returns-3
+returns-3 c =
+    let t = c .before .before .before .before .before .before .before .before .before .before .before .before .before .before .before .before .before in
+    let s = t .before .before .before .before .before .before .before .before in
+    let p = c .before .before .before .before .before .before .before .before .before .before .before .before .before .before .before .before .parity-checks in
+    let b = c .before .before .before .before .before .before .before .before .before .before .before .before .build in
+    let w = c .before .before .before .before .decode-words in
+    rw (size-is (s .args .n) (s .args .k) (s .args .rows .now) (s .args .reading) (s .args .words .now) (s .args .out .now) (s .args .counts .now) (s .args .work .now) (t .before .before .batch-cause .result) (t .enum-told .given .1) (t .before .before .batch-cause .ensures))
+    (decode-ends (s .args .n) (s .args .k) (s .args .rows .now) (s .args .reading) (s .args .words .now) (s .args .out .now) (s .args .counts .now) (s .args .work .now) (t .before .before .batch-cause .result) (t .enum-told .given .1) (t .before .before .batch-cause .ensures) (p .result) (p .ensures) (b .last .1 .1 .1 .0) (b .result) (b .ensures) _ _
+    (rw (size-is (s .args .n) (s .args .k) (s .args .rows .now) (s .args .reading) (s .args .words .now) (s .args .out .now) (s .args .counts .now) (s .args .work .now) (t .before .before .batch-cause .result) (t .enum-told .given .1) (t .before .before .batch-cause .ensures), leaders-lent (s .args .n) (s .args .k) (s .args .rows .now) (s .args .reading) (s .args .words .now) (s .args .out .now) (s .args .counts .now) (s .args .work .now) (t .before .before .batch-cause .result) (t .enum-told .given .1) (t .before .before .batch-cause .ensures) (p .result) (p .ensures) (b .last .1 .1 .1 .0) (b .result) (b .ensures)) at (w .ensures .0))
+    (rw (size-is (s .args .n) (s .args .k) (s .args .rows .now) (s .args .reading) (s .args .words .now) (s .args .out .now) (s .args .counts .now) (s .args .work .now) (t .before .before .batch-cause .result) (t .enum-told .given .1) (t .before .before .batch-cause .ensures), leaders-lent (s .args .n) (s .args .k) (s .args .rows .now) (s .args .reading) (s .args .words .now) (s .args .out .now) (s .args .counts .now) (s .args .work .now) (t .before .before .batch-cause .result) (t .enum-told .given .1) (t .before .before .batch-cause .ensures) (p .result) (p .ensures) (b .last .1 .1 .1 .0) (b .result) (b .ensures)) at (w .ensures .1)))
+
+pub decode-spec : {M : Type 1} → statement M
+decode-spec =
+    tie.close
+    (tie.spec
+    batch-cause-requires
+    enum-told
+    enum-told-2
+    returns
+    parity-checks-requires
+    sub-size
+    cast-size
+    shl-size
+    sub-build
+    cast-build
+    slice-relend-prefix-build
+    slice-aggregate-build
+    build-requires
+    same-length
+    returns-2
+    slice-reshare-prefix-decode-words
+    slice-aggregate-decode-words
+    decode-words-requires
+    same-length-2
+    same-length-3
+    same-length-4
+    returns-3)

@@ -1,0 +1,144 @@
+-- `decoder::batch::decode_words`: the first i slots are answered, the others are as they were. Assumes nothing.
+use mathlib.Core.Path.{_≡_, sym, ap, ap₂, _∙_}
+use mathlib.Core.List.{List, map, _++_}
+use Prim.Native.Nat.{ℕ, _≤_, _<_, _-_}
+use lib.ListN.{length, getD, drop, set, length-set, length-map}
+use borrow.Author.Needs.{scaled-fits}
+use Rattle.coding.specs.Check.{syndrome}
+use Rattle.coding.proofs.ListLaws.{getD-map, over, over-set, over-all}
+use Rattle.decoder.specs.Outcome.{outcomeOf, wordIn, countIn}
+use Rattle.decoder.specs.Decoded.{wordBy, countBy}
+use Rattle.decoder.specs.declared.outcomes.Outcome.{Outcome}
+use borrow.Author.Needs.{needs}
+use native.Mathlib.Omega.{arith}
+use Rattle.decoder.proofs.batch.decode_words.Statement.{statement}
+use Rattle.decoder.proofs.batch.decode_words.Tie as tie
+
+abbrev Inv-loop : tie.InvT-loop
+Inv-loop checks reading words leaders out₀ counts₀ i₀ out counts i =
+    (i ≤ length words) × (length out ≡ length out₀) × (length counts ≡ length counts₀)
+    × (out ≡ over (map (wordBy reading leaders checks) words) out₀ i) × (counts ≡ over (map (countBy reading leaders checks) words) counts₀ i)
+
+abbrev μ-loop : tie.MeasureT-loop
+μ-loop checks reading words leaders out₀ counts₀ i₀ out counts i = length words - i
+
+loop-holds : tie.Need-loop-holds Inv-loop μ-loop
+loop-holds c = search needs
+
+mul-w : tie.Need-mul-w Inv-loop μ-loop
+mul-w c = search needs
+
+shared-slice-read-w : tie.Need-shared-slice-read-w Inv-loop μ-loop
+shared-slice-read-w c = search needs
+
+syndrome-requires : tie.Need-syndrome-requires Inv-loop μ-loop
+syndrome-requires c κs = search needs
+
+cast-s : tie.Need-cast-s Inv-loop μ-loop
+cast-s c = search needs
+
+mul-judged : tie.Need-mul-judged Inv-loop μ-loop
+mul-judged c =
+    let s = c .before .before .before .before .before .before .before .before in
+    scaled-fits _ (length (s .args .leaders .now)) 4 (rw (c .syndrome .ensures) (s .pre .1 _)) (s .good .1 .1 .1 .0 .1)
+
+shared-slice-read-judged : tie.Need-shared-slice-read-judged Inv-loop μ-loop
+shared-slice-read-judged c =
+    let s = c .before .before .before .before .before .before .before .before .before in
+    rw (c .before .syndrome .ensures) (s .pre .1 _)
+
+judged-requires : tie.Need-judged-requires Inv-loop μ-loop
+judged-requires c κs = search needs
+
+word-in-requires : tie.Need-word-in-requires Inv-loop μ-loop
+word-in-requires c κs = search needs
+
+mul-out : tie.Need-mul-out Inv-loop μ-loop
+mul-out c = search needs
+
+slice-write-out : tie.Need-slice-write-out Inv-loop μ-loop
+slice-write-out c = search needs
+
+count-in-requires : tie.Need-count-in-requires Inv-loop μ-loop
+count-in-requires c κs = search needs
+
+slice-write-counts : tie.Need-slice-write-counts Inv-loop μ-loop
+slice-write-counts c = search needs
+
+add-i : tie.Need-add-i Inv-loop μ-loop
+add-i c = search needs
+
+loop-less : tie.Need-loop-less Inv-loop μ-loop
+loop-less c = search needs
+
+loop-again : tie.Need-loop-again Inv-loop μ-loop
+loop-again c =
+    let i = c .before .before .before .before .before .before in
+    let l = i .before .loop in
+    let s = i .before .before .before .before .before .before in
+    let a = s .args in
+    let words = a .words .now in
+    let f = wordBy (a .reading) (a .leaders .now) (a .checks .now) in
+    let g = countBy (a .reading) (a .leaders .now) (a .checks .now) in
+    let h : l .i < length (a .words .now) = i .loop-test .taken in
+    let w = getD words (l .i) 0 in
+    let y = c .before .before .before .before .syndrome .ensures in
+    let o : c .before .before .judged .result ≡ outcomeOf (a .reading) w (getD (a .leaders .now) (syndrome (a .checks .now) w) 0)
+    = c .before .before .judged .ensures ∙ ap (λ (x : ℕ). outcomeOf (a .reading) w (getD (a .leaders .now) x 0)) y in (
+      omega arith,
+      simp length-set (l .inv .1),
+      simp length-set (l .inv .2),
+      ap (λ (x : List ℕ). set x (l .i) (c .before .word-in .result)) (l .inv .3)
+          ∙ over-set (map f words) (a .out .now) (l .i) _ (omega (arith, length-map words f)) (omega (arith, s .pre))
+          (c .before .word-in .ensures ∙ ap (λ (x : Outcome). wordIn x w) o ∙ sym (getD-map f words (l .i) h)),
+      ap (λ (x : List ℕ). set x (l .i) (c .count-in .result)) (l .inv .4)
+          ∙ over-set (map g words) (a .counts .now) (l .i) _ (omega (arith, length-map words g)) (omega (arith, s .pre))
+          (c .count-in .ensures ∙ ap countIn o ∙ sym (getD-map g words (l .i) h)),
+    )
+
+same-length : tie.Need-same-length Inv-loop μ-loop
+same-length c = search needs
+
+same-length-2 : tie.Need-same-length-2 Inv-loop μ-loop
+same-length-2 c = search needs
+
+returns : tie.Need-returns Inv-loop μ-loop
+returns c =
+    let l = c .before .loop in
+    let a = c .before .before .before .before .before .before .args in
+    let words = a .words .now in
+    let f = wordBy (a .reading) (a .leaders .now) (a .checks .now) in
+    let g = countBy (a .reading) (a .leaders .now) (a .checks .now) in
+    let lf : length (map f words) ≡ length (a .words .now) = length-map words f in
+    let lg : length (map g words) ≡ length (a .words .now) = length-map words g in
+    let e : l .i ≡ length (map f words) = omega (arith, c .loop-test .left, l .inv .0, lf) in
+    let k : l .i ≡ length (map g words) = omega (arith, c .loop-test .left, l .inv .0, lg) in (
+      l .inv .3 ∙ over-all (map f words) (a .out .now) (l .i) e ∙ ap (λ (m : ℕ). map f words ++ drop m (a .out .now)) lf,
+      l .inv .4 ∙ over-all (map g words) (a .counts .now) (l .i) k ∙ ap (λ (m : ℕ). map g words ++ drop m (a .counts .now)) lg,
+    )
+
+pub decode-words-spec : {M : Type 1} → statement M
+decode-words-spec =
+    tie.close
+    (tie.spec
+    Inv-loop
+    μ-loop
+    loop-holds
+    mul-w
+    shared-slice-read-w
+    syndrome-requires
+    cast-s
+    mul-judged
+    shared-slice-read-judged
+    judged-requires
+    word-in-requires
+    mul-out
+    slice-write-out
+    count-in-requires
+    slice-write-counts
+    add-i
+    loop-less
+    loop-again
+    same-length
+    same-length-2
+    returns)

@@ -1,0 +1,59 @@
+-- `decoder::leaders::build`: the columns give every syndrome an entry. Assumes nothing.
+use mathlib.Core.Path.{_≡_, sym, ap, _∙_}
+use Prim.Native.Nat.{ℕ, suc, _^_}
+use lib.ListN.{length}
+use lib.Pow.{pow-pos, pow-lt}
+use mathlib.Core.List.{List}
+use Rattle.coding.specs.Matrix.{encode}
+use Rattle.coding.specs.Order.{order, fills, blanks}
+use Rattle.coding.proofs.MatrixLaws.{encode-lt}
+use Rattle.decoder.specs.Built.{columnsOf}
+use Rattle.decoder.proofs.TryLaws.{columns-long, columns-inside}
+use borrow.Author.Needs.{needs}
+use Rattle.decoder.proofs.leaders.build.Statement.{statement}
+use Rattle.decoder.proofs.leaders.build.Tie as tie
+
+columns-requires : tie.Need-columns-requires
+columns-requires c κs = search needs
+
+slice-aggregate-fill-list : tie.Need-slice-aggregate-fill-list
+slice-aggregate-fill-list c = search needs
+
+fill-list-requires : tie.Need-fill-list-requires
+fill-list-requires c κs =
+    let s = c .before .before .before .before in
+    let checks = s .args .checks .now in
+    let e = c .before .before .columns .ensures in
+    let l : length (s .args .list .now) ≡ 2 ^ s .args .c = s .pre .2 in
+    rw (e, l) (
+      (columns-long checks, s .pre .0, s .pre .1, pow-pos (s .args .c), pow-lt (s .pre .1)),
+      encode-lt (s .args .c) (columnsOf checks) (columns-inside checks (s .args .c) (s .pre .3)),
+    )
+
+first-blank-requires : tie.Need-first-blank-requires
+first-blank-requires c κs = search needs
+
+same-length : tie.Need-same-length
+same-length c = search needs
+
+returns : tie.Need-returns
+returns c =
+    let f = c .before .before .before .before in
+    let s = c .before .before .before .before .before .before .before .before .before in
+    let e = f .before .before .before .columns .ensures in
+    record {
+      filled = f .fill-list .ensures ∙ ap (λ (m : ℕ). fills (encode (f .before .before .before .columns .result)) (blanks m) (order (s .args .n) (suc (s .args .c)))) (s .pre .2)
+          ∙ ap (λ (h : List ℕ). fills (encode h) (blanks (2 ^ s .args .c)) (order (s .args .n) (suc (s .args .c)))) e;
+      blank = c .first-blank .ensures;
+    }
+
+pub build-spec : {M : Type 1} → statement M
+build-spec =
+    tie.close
+    (tie.spec
+    columns-requires
+    slice-aggregate-fill-list
+    fill-list-requires
+    first-blank-requires
+    same-length
+    returns)
