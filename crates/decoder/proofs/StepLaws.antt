@@ -28,13 +28,17 @@ use Rattle.decoder.proofs.CauseLaws.{batch-in}
 use Rattle.decoder.proofs.DecodedLaws.{checks-below, leaders-are, none-blank, words-are, counts-are}
 use Rattle.decoder.proofs.PromiseLaws.{past-causes, decode-done}
 
-module _ (n k : ℕ) (rows : List ℕ) (reading : Reading) (words out counts work : List ℕ) (a : Answer) (told : a ≡ Done)
-    (is : a ≡ batchAnswer n k rows reading words (length out) (length counts) (length work)) where
-  pass : batchAnswer n k rows reading words (length out) (length counts) (length work) ≡ Done
-  pass = sym is ∙ told
+-- causes 1 to 9 have passed
+pub record Past (n k : ℕ) (rows : List ℕ) (reading : Reading) (words out counts work : List ℕ) : Type 0 where
+  pub passed : batchAnswer n k rows reading words (length out) (length counts) (length work) ≡ Done
 
+pub past : (n k : ℕ) (rows : List ℕ) (reading : Reading) (words out counts work : List ℕ) {a : Answer} → a ≡ Done
+    → a ≡ batchAnswer n k rows reading words (length out) (length counts) (length work) → Past n k rows reading words out counts work
+past n k rows reading words out counts work d e = record { passed = sym e ∙ d }
+
+module _ {n k : ℕ} {rows : List ℕ} {reading : Reading} {words out counts work : List ℕ} (g : Past n k rows reading words out counts work) where
   A : Accepted n k rows
-  A = past-causes n k rows reading words out counts work pass
+  A = past-causes n k rows reading words out counts work (g .passed)
 
   pub places-fit : n ≤ 32
   places-fit = omega (arith, A .range .places)
@@ -49,21 +53,21 @@ module _ (n k : ℕ) (rows : List ℕ) (reading : Reading) (words out counts wor
   size-is = shl-one (n - k) 64 (omega (arith, checks-fit))
 
   pub work-fits : 2 ^ (n - k) ≤ length work
-  work-fits = batch-in n k rows reading words (length out) (length counts) (length work) pass .work
+  work-fits = batch-in n k rows reading words (length out) (length counts) (length work) (g .passed) .work
 
   pub words-fit : (length words ≤ length out) × (length words ≤ length counts)
   words-fit =
-      let h = batch-in n k rows reading words (length out) (length counts) (length work) pass .listed .room in
+      let h = batch-in n k rows reading words (length out) (length counts) (length work) (g .passed) .listed .room in
       (omega (arith, h), omega (arith, h))
 
-  module _ (p : Checks) (P : ParityChecks n k rows p) where
+  module _ {p : Checks} (P : ParityChecks n k rows p) where
     check-rows : p .rows ≡ padded maxChecks (checks n rows)
     check-rows = let d : p .answer ≡ Done = P .answer ∙ in-accepted n k rows A in rw d at (P .rows-are)
 
     pub syndromes-fit : (w : ℕ) → syndrome (p .rows) w < 2 ^ (n - k)
     syndromes-fit w = rw check-rows (checks-below n k rows A w)
 
-    module _ (list : List ℕ) (r : ℕ) (B : BuiltList (p .rows) n (n - k) list r) where
+    module _ {list : List ℕ} {r : ℕ} (B : BuiltList (p .rows) n (n - k) list r) where
       leaders : list ≡ tabulate (leaderOf n rows) (2 ^ (n - k))
       leaders = leaders-are n k rows A list r (rw check-rows at B)
 
@@ -85,7 +89,7 @@ module _ (n k : ℕ) (rows : List ℕ) (reading : Reading) (words out counts wor
           → counts′ ≡ map (countBy reading list (p .rows)) words ++ drop (length words) counts
           → Decoded n k rows reading words out counts work Done out′ counts′ (list ++ drop (2 ^ (n - k)) work)
       decode-ends out′ counts′ eo ec =
-          decode-done n k rows reading words out counts work pass out′ counts′ (list ++ drop (2 ^ (n - k)) work)
+          decode-done n k rows reading words out counts work (g .passed) out′ counts′ (list ++ drop (2 ^ (n - k)) work)
           (eo ∙ ap (λ (l : List ℕ). l ++ drop (length words) out)
           (ap (λ (h : List ℕ). map (wordBy reading list h) words) check-rows ∙ words-are n k rows A reading list leaders words))
           (ec ∙ ap (λ (l : List ℕ). l ++ drop (length words) counts)

@@ -5,7 +5,7 @@ use native.Mathlib.Omega.{arith}
 use lib.ListN.{length}
 use lib.Seq.{length-take-le}
 use Rattle.decoder.proofs.PromiseLaws.{decode-refused}
-use Rattle.decoder.proofs.StepLaws.{places-fit, rows-fit, checks-fit, size-is, work-fits, words-fit, syndromes-fit, list-long, list-full, work-long, leaders-lent, decode-ends}
+use Rattle.decoder.proofs.StepLaws.{past, places-fit, rows-fit, checks-fit, size-is, work-fits, words-fit, syndromes-fit, list-long, list-full, work-long, leaders-lent, decode-ends}
 use borrow.Author.Needs.{needs}
 use Rattle.decoder.proofs.batch.decode.Statement.{statement}
 use Rattle.decoder.proofs.batch.decode.Tie as tie
@@ -32,91 +32,117 @@ sub-size : tie.Need-sub-size
 sub-size c =
     let t = c .before .before in
     let s = t .before .before .before .before .before .before .before .before in
-    rows-fit (s .args .n) (s .args .k) (s .args .rows .now) (s .args .reading) (s .args .words .now) (s .args .out .now) (s .args .counts .now) (s .args .work .now) (t .before .before .batch-cause .result) (t .enum-told .given .1) (t .before .before .batch-cause .ensures)
+    let g = past (s .args .n) (s .args .k) (s .args .rows .now) (s .args .reading) (s .args .words .now) (s .args .out .now) (s .args .counts .now) (s .args .work .now)
+    (t .enum-told .given .1) (t .before .before .batch-cause .ensures) in
+    rows-fit g
 
 cast-size : tie.Need-cast-size
 cast-size c =
     let t = c .before .before in
     let s = t .before .before .before .before .before .before .before .before in
-    omega (arith, checks-fit (s .args .n) (s .args .k) (s .args .rows .now) (s .args .reading) (s .args .words .now) (s .args .out .now) (s .args .counts .now) (s .args .work .now) (t .before .before .batch-cause .result) (t .enum-told .given .1) (t .before .before .batch-cause .ensures))
+    let g = past (s .args .n) (s .args .k) (s .args .rows .now) (s .args .reading) (s .args .words .now) (s .args .out .now) (s .args .counts .now) (s .args .work .now)
+    (t .enum-told .given .1) (t .before .before .batch-cause .ensures) in
+    omega (arith, checks-fit g)
 
 shl-size : tie.Need-shl-size
 shl-size c =
     let t = c .before .before in
     let s = t .before .before .before .before .before .before .before .before in
-    omega (arith, checks-fit (s .args .n) (s .args .k) (s .args .rows .now) (s .args .reading) (s .args .words .now) (s .args .out .now) (s .args .counts .now) (s .args .work .now) (t .before .before .batch-cause .result) (t .enum-told .given .1) (t .before .before .batch-cause .ensures))
+    let g = past (s .args .n) (s .args .k) (s .args .rows .now) (s .args .reading) (s .args .words .now) (s .args .out .now) (s .args .counts .now) (s .args .work .now)
+    (t .enum-told .given .1) (t .before .before .batch-cause .ensures) in
+    omega (arith, checks-fit g)
 
 sub-build : tie.Need-sub-build
 sub-build c =
     let t = c .before .before .before in
     let s = t .before .before .before .before .before .before .before .before in
-    rows-fit (s .args .n) (s .args .k) (s .args .rows .now) (s .args .reading) (s .args .words .now) (s .args .out .now) (s .args .counts .now) (s .args .work .now) (t .before .before .batch-cause .result) (t .enum-told .given .1) (t .before .before .batch-cause .ensures)
+    let g = past (s .args .n) (s .args .k) (s .args .rows .now) (s .args .reading) (s .args .words .now) (s .args .out .now) (s .args .counts .now) (s .args .work .now)
+    (t .enum-told .given .1) (t .before .before .batch-cause .ensures) in
+    rows-fit g
 
 cast-build : tie.Need-cast-build
 cast-build c =
     let t = c .before .before .before in
     let s = t .before .before .before .before .before .before .before .before in
-    omega (arith, checks-fit (s .args .n) (s .args .k) (s .args .rows .now) (s .args .reading) (s .args .words .now) (s .args .out .now) (s .args .counts .now) (s .args .work .now) (t .before .before .batch-cause .result) (t .enum-told .given .1) (t .before .before .batch-cause .ensures))
+    let g = past (s .args .n) (s .args .k) (s .args .rows .now) (s .args .reading) (s .args .words .now) (s .args .out .now) (s .args .counts .now) (s .args .work .now)
+    (t .enum-told .given .1) (t .before .before .batch-cause .ensures) in
+    omega (arith, checks-fit g)
 
 slice-relend-prefix-build : tie.Need-slice-relend-prefix-build
 slice-relend-prefix-build c =
     let t = c .before .before .before in
     let s = t .before .before .before .before .before .before .before .before in
-    rw (size-is (s .args .n) (s .args .k) (s .args .rows .now) (s .args .reading) (s .args .words .now) (s .args .out .now) (s .args .counts .now) (s .args .work .now) (t .before .before .batch-cause .result) (t .enum-told .given .1) (t .before .before .batch-cause .ensures)) (work-fits (s .args .n) (s .args .k) (s .args .rows .now) (s .args .reading) (s .args .words .now) (s .args .out .now) (s .args .counts .now) (s .args .work .now) (t .before .before .batch-cause .result) (t .enum-told .given .1) (t .before .before .batch-cause .ensures))
+    let g = past (s .args .n) (s .args .k) (s .args .rows .now) (s .args .reading) (s .args .words .now) (s .args .out .now) (s .args .counts .now) (s .args .work .now)
+    (t .enum-told .given .1) (t .before .before .batch-cause .ensures) in
+    rw (size-is g) (work-fits g)
 
 slice-aggregate-build : tie.Need-slice-aggregate-build
 slice-aggregate-build c =
     let t = c .before .before .before .before in
     let s = t .before .before .before .before .before .before .before .before in
-    rw (size-is (s .args .n) (s .args .k) (s .args .rows .now) (s .args .reading) (s .args .words .now) (s .args .out .now) (s .args .counts .now) (s .args .work .now) (t .before .before .batch-cause .result) (t .enum-told .given .1) (t .before .before .batch-cause .ensures)) (sym (length-take-le (2 ^ (s .args .n - s .args .k)) (s .args .work .now) (work-fits (s .args .n) (s .args .k) (s .args .rows .now) (s .args .reading) (s .args .words .now) (s .args .out .now) (s .args .counts .now) (s .args .work .now) (t .before .before .batch-cause .result) (t .enum-told .given .1) (t .before .before .batch-cause .ensures))))
+    let g = past (s .args .n) (s .args .k) (s .args .rows .now) (s .args .reading) (s .args .words .now) (s .args .out .now) (s .args .counts .now) (s .args .work .now)
+    (t .enum-told .given .1) (t .before .before .batch-cause .ensures) in
+    rw (size-is g) (sym (length-take-le (2 ^ (s .args .n - s .args .k)) (s .args .work .now) (work-fits g)))
 
 build-requires : tie.Need-build-requires
 build-requires c κs =
     let t = c .before .before .before .before in
     let s = t .before .before .before .before .before .before .before .before in
-    let p = c .before .before .before .parity-checks in
-    rw (size-is (s .args .n) (s .args .k) (s .args .rows .now) (s .args .reading) (s .args .words .now) (s .args .out .now) (s .args .counts .now) (s .args .work .now) (t .before .before .batch-cause .result) (t .enum-told .given .1) (t .before .before .batch-cause .ensures))
-    (places-fit (s .args .n) (s .args .k) (s .args .rows .now) (s .args .reading) (s .args .words .now) (s .args .out .now) (s .args .counts .now) (s .args .work .now) (t .before .before .batch-cause .result) (t .enum-told .given .1) (t .before .before .batch-cause .ensures), checks-fit (s .args .n) (s .args .k) (s .args .rows .now) (s .args .reading) (s .args .words .now) (s .args .out .now) (s .args .counts .now) (s .args .work .now) (t .before .before .batch-cause .result) (t .enum-told .given .1) (t .before .before .batch-cause .ensures), length-take-le (2 ^ (s .args .n - s .args .k)) (s .args .work .now) (work-fits (s .args .n) (s .args .k) (s .args .rows .now) (s .args .reading) (s .args .words .now) (s .args .out .now) (s .args .counts .now) (s .args .work .now) (t .before .before .batch-cause .result) (t .enum-told .given .1) (t .before .before .batch-cause .ensures)), syndromes-fit (s .args .n) (s .args .k) (s .args .rows .now) (s .args .reading) (s .args .words .now) (s .args .out .now) (s .args .counts .now) (s .args .work .now) (t .before .before .batch-cause .result) (t .enum-told .given .1) (t .before .before .batch-cause .ensures) (p .result) (p .ensures))
+    let g = past (s .args .n) (s .args .k) (s .args .rows .now) (s .args .reading) (s .args .words .now) (s .args .out .now) (s .args .counts .now) (s .args .work .now)
+    (t .enum-told .given .1) (t .before .before .batch-cause .ensures) in
+    let p = c .before .before .before .parity-checks .ensures in
+    rw (size-is g)
+    (places-fit g, checks-fit g, length-take-le (2 ^ (s .args .n - s .args .k)) (s .args .work .now) (work-fits g), syndromes-fit g p)
 
 same-length : tie.Need-same-length
 same-length c =
     let t = c .before .before .before .before .before .before .before .before in
     let s = t .before .before .before .before .before .before .before .before in
-    let p = c .before .before .before .before .before .before .before .parity-checks in
-    let b = c .before .before .before .build in
-    rw (size-is (s .args .n) (s .args .k) (s .args .rows .now) (s .args .reading) (s .args .words .now) (s .args .out .now) (s .args .counts .now) (s .args .work .now) (t .before .before .batch-cause .result) (t .enum-told .given .1) (t .before .before .batch-cause .ensures)) (work-long (s .args .n) (s .args .k) (s .args .rows .now) (s .args .reading) (s .args .words .now) (s .args .out .now) (s .args .counts .now) (s .args .work .now) (t .before .before .batch-cause .result) (t .enum-told .given .1) (t .before .before .batch-cause .ensures) (p .result) (p .ensures) (b .last .1 .1 .1 .0) (b .result) (b .ensures))
+    let g = past (s .args .n) (s .args .k) (s .args .rows .now) (s .args .reading) (s .args .words .now) (s .args .out .now) (s .args .counts .now) (s .args .work .now)
+    (t .enum-told .given .1) (t .before .before .batch-cause .ensures) in
+    let p = c .before .before .before .before .before .before .before .parity-checks .ensures in
+    let b = c .before .before .before .build .ensures in
+    rw (size-is g) (work-long g p b)
 
 returns-2 : tie.Need-returns-2
 returns-2 c =
     let t = c .before .before .before .before .before .before .before .before in
     let s = t .before .before .before .before .before .before .before .before in
-    let p = c .before .before .before .before .before .before .before .parity-checks in
-    let b = c .before .before .before .build in
-    absurd (c .if1 .taken (list-full (s .args .n) (s .args .k) (s .args .rows .now) (s .args .reading) (s .args .words .now) (s .args .out .now) (s .args .counts .now) (s .args .work .now) (t .before .before .batch-cause .result) (t .enum-told .given .1) (t .before .before .batch-cause .ensures) (p .result) (p .ensures) (b .last .1 .1 .1 .0) (b .result) (b .ensures) ∙ sym (size-is (s .args .n) (s .args .k) (s .args .rows .now) (s .args .reading) (s .args .words .now) (s .args .out .now) (s .args .counts .now) (s .args .work .now) (t .before .before .batch-cause .result) (t .enum-told .given .1) (t .before .before .batch-cause .ensures))))
+    let g = past (s .args .n) (s .args .k) (s .args .rows .now) (s .args .reading) (s .args .words .now) (s .args .out .now) (s .args .counts .now) (s .args .work .now)
+    (t .enum-told .given .1) (t .before .before .batch-cause .ensures) in
+    let p = c .before .before .before .before .before .before .before .parity-checks .ensures in
+    let b = c .before .before .before .build .ensures in
+    absurd (c .if1 .taken (list-full g p b ∙ sym (size-is g)))
 
 slice-reshare-prefix-decode-words : tie.Need-slice-reshare-prefix-decode-words
 slice-reshare-prefix-decode-words c =
     let t = c .before .before .before .before .before .before .before .before .before in
     let s = t .before .before .before .before .before .before .before .before in
-    let p = c .before .before .before .before .before .before .before .before .parity-checks in
-    let b = c .before .before .before .before .build in
-    rw (size-is (s .args .n) (s .args .k) (s .args .rows .now) (s .args .reading) (s .args .words .now) (s .args .out .now) (s .args .counts .now) (s .args .work .now) (t .before .before .batch-cause .result) (t .enum-told .given .1) (t .before .before .batch-cause .ensures), work-long (s .args .n) (s .args .k) (s .args .rows .now) (s .args .reading) (s .args .words .now) (s .args .out .now) (s .args .counts .now) (s .args .work .now) (t .before .before .batch-cause .result) (t .enum-told .given .1) (t .before .before .batch-cause .ensures) (p .result) (p .ensures) (b .last .1 .1 .1 .0) (b .result) (b .ensures)) (work-fits (s .args .n) (s .args .k) (s .args .rows .now) (s .args .reading) (s .args .words .now) (s .args .out .now) (s .args .counts .now) (s .args .work .now) (t .before .before .batch-cause .result) (t .enum-told .given .1) (t .before .before .batch-cause .ensures))
+    let g = past (s .args .n) (s .args .k) (s .args .rows .now) (s .args .reading) (s .args .words .now) (s .args .out .now) (s .args .counts .now) (s .args .work .now)
+    (t .enum-told .given .1) (t .before .before .batch-cause .ensures) in
+    let p = c .before .before .before .before .before .before .before .before .parity-checks .ensures in
+    let b = c .before .before .before .before .build .ensures in
+    rw (size-is g, work-long g p b) (work-fits g)
 
 slice-aggregate-decode-words : tie.Need-slice-aggregate-decode-words
 slice-aggregate-decode-words c =
     let t = c .before .before .before .before .before .before .before .before .before .before in
     let s = t .before .before .before .before .before .before .before .before in
-    let p = c .before .before .before .before .before .before .before .before .before .parity-checks in
-    let b = c .before .before .before .before .before .build in
-    rw (size-is (s .args .n) (s .args .k) (s .args .rows .now) (s .args .reading) (s .args .words .now) (s .args .out .now) (s .args .counts .now) (s .args .work .now) (t .before .before .batch-cause .result) (t .enum-told .given .1) (t .before .before .batch-cause .ensures)) (sym (ap length (leaders-lent (s .args .n) (s .args .k) (s .args .rows .now) (s .args .reading) (s .args .words .now) (s .args .out .now) (s .args .counts .now) (s .args .work .now) (t .before .before .batch-cause .result) (t .enum-told .given .1) (t .before .before .batch-cause .ensures) (p .result) (p .ensures) (b .last .1 .1 .1 .0) (b .result) (b .ensures)) ∙ list-long (s .args .n) (s .args .k) (s .args .rows .now) (s .args .reading) (s .args .words .now) (s .args .out .now) (s .args .counts .now) (s .args .work .now) (t .before .before .batch-cause .result) (t .enum-told .given .1) (t .before .before .batch-cause .ensures) (p .result) (p .ensures) (b .last .1 .1 .1 .0) (b .result) (b .ensures)))
+    let g = past (s .args .n) (s .args .k) (s .args .rows .now) (s .args .reading) (s .args .words .now) (s .args .out .now) (s .args .counts .now) (s .args .work .now)
+    (t .enum-told .given .1) (t .before .before .batch-cause .ensures) in
+    let p = c .before .before .before .before .before .before .before .before .before .parity-checks .ensures in
+    let b = c .before .before .before .before .before .build .ensures in
+    rw (size-is g) (sym (ap length (leaders-lent g p b) ∙ list-long g p b))
 
 decode-words-requires : tie.Need-decode-words-requires
 decode-words-requires c κs =
     let t = c .before .before .before .before .before .before .before .before .before .before .before .before in
     let s = t .before .before .before .before .before .before .before .before in
-    let p = c .before .before .before .before .before .before .before .before .before .before .before .parity-checks in
-    let b = c .before .before .before .before .before .before .before .build in
-    (words-fit (s .args .n) (s .args .k) (s .args .rows .now) (s .args .reading) (s .args .words .now) (s .args .out .now) (s .args .counts .now) (s .args .work .now) (t .before .before .batch-cause .result) (t .enum-told .given .1) (t .before .before .batch-cause .ensures), rw (size-is (s .args .n) (s .args .k) (s .args .rows .now) (s .args .reading) (s .args .words .now) (s .args .out .now) (s .args .counts .now) (s .args .work .now) (t .before .before .batch-cause .result) (t .enum-told .given .1) (t .before .before .batch-cause .ensures), leaders-lent (s .args .n) (s .args .k) (s .args .rows .now) (s .args .reading) (s .args .words .now) (s .args .out .now) (s .args .counts .now) (s .args .work .now) (t .before .before .batch-cause .result) (t .enum-told .given .1) (t .before .before .batch-cause .ensures) (p .result) (p .ensures) (b .last .1 .1 .1 .0) (b .result) (b .ensures), list-long (s .args .n) (s .args .k) (s .args .rows .now) (s .args .reading) (s .args .words .now) (s .args .out .now) (s .args .counts .now) (s .args .work .now) (t .before .before .batch-cause .result) (t .enum-told .given .1) (t .before .before .batch-cause .ensures) (p .result) (p .ensures) (b .last .1 .1 .1 .0) (b .result) (b .ensures)) (syndromes-fit (s .args .n) (s .args .k) (s .args .rows .now) (s .args .reading) (s .args .words .now) (s .args .out .now) (s .args .counts .now) (s .args .work .now) (t .before .before .batch-cause .result) (t .enum-told .given .1) (t .before .before .batch-cause .ensures) (p .result) (p .ensures)))
+    let g = past (s .args .n) (s .args .k) (s .args .rows .now) (s .args .reading) (s .args .words .now) (s .args .out .now) (s .args .counts .now) (s .args .work .now)
+    (t .enum-told .given .1) (t .before .before .batch-cause .ensures) in
+    let p = c .before .before .before .before .before .before .before .before .before .before .before .parity-checks .ensures in
+    let b = c .before .before .before .before .before .before .before .build .ensures in
+    (words-fit g, rw (size-is g, leaders-lent g p b, list-long g p b) (syndromes-fit g p))
 
 same-length-2 : tie.Need-same-length-2
 same-length-2 c = search needs
@@ -128,21 +154,25 @@ same-length-4 : tie.Need-same-length-4
 same-length-4 c =
     let t = c .before .before .before .before .before .before .before .before .before .before .before .before .before .before .before .before .before in
     let s = t .before .before .before .before .before .before .before .before in
-    let p = c .before .before .before .before .before .before .before .before .before .before .before .before .before .before .before .before .parity-checks in
-    let b = c .before .before .before .before .before .before .before .before .before .before .before .before .build in
-    rw (size-is (s .args .n) (s .args .k) (s .args .rows .now) (s .args .reading) (s .args .words .now) (s .args .out .now) (s .args .counts .now) (s .args .work .now) (t .before .before .batch-cause .result) (t .enum-told .given .1) (t .before .before .batch-cause .ensures)) (work-long (s .args .n) (s .args .k) (s .args .rows .now) (s .args .reading) (s .args .words .now) (s .args .out .now) (s .args .counts .now) (s .args .work .now) (t .before .before .batch-cause .result) (t .enum-told .given .1) (t .before .before .batch-cause .ensures) (p .result) (p .ensures) (b .last .1 .1 .1 .0) (b .result) (b .ensures))
+    let g = past (s .args .n) (s .args .k) (s .args .rows .now) (s .args .reading) (s .args .words .now) (s .args .out .now) (s .args .counts .now) (s .args .work .now)
+    (t .enum-told .given .1) (t .before .before .batch-cause .ensures) in
+    let p = c .before .before .before .before .before .before .before .before .before .before .before .before .before .before .before .before .parity-checks .ensures in
+    let b = c .before .before .before .before .before .before .before .before .before .before .before .before .build .ensures in
+    rw (size-is g) (work-long g p b)
 
 returns-3 : tie.Need-returns-3
 returns-3 c =
     let t = c .before .before .before .before .before .before .before .before .before .before .before .before .before .before .before .before .before in
     let s = t .before .before .before .before .before .before .before .before in
-    let p = c .before .before .before .before .before .before .before .before .before .before .before .before .before .before .before .before .parity-checks in
-    let b = c .before .before .before .before .before .before .before .before .before .before .before .before .build in
+    let g = past (s .args .n) (s .args .k) (s .args .rows .now) (s .args .reading) (s .args .words .now) (s .args .out .now) (s .args .counts .now) (s .args .work .now)
+    (t .enum-told .given .1) (t .before .before .batch-cause .ensures) in
+    let p = c .before .before .before .before .before .before .before .before .before .before .before .before .before .before .before .before .parity-checks .ensures in
+    let b = c .before .before .before .before .before .before .before .before .before .before .before .before .build .ensures in
     let w = c .before .before .before .before .decode-words in
-    rw (size-is (s .args .n) (s .args .k) (s .args .rows .now) (s .args .reading) (s .args .words .now) (s .args .out .now) (s .args .counts .now) (s .args .work .now) (t .before .before .batch-cause .result) (t .enum-told .given .1) (t .before .before .batch-cause .ensures))
-    (decode-ends (s .args .n) (s .args .k) (s .args .rows .now) (s .args .reading) (s .args .words .now) (s .args .out .now) (s .args .counts .now) (s .args .work .now) (t .before .before .batch-cause .result) (t .enum-told .given .1) (t .before .before .batch-cause .ensures) (p .result) (p .ensures) (b .last .1 .1 .1 .0) (b .result) (b .ensures) _ _
-    (rw (size-is (s .args .n) (s .args .k) (s .args .rows .now) (s .args .reading) (s .args .words .now) (s .args .out .now) (s .args .counts .now) (s .args .work .now) (t .before .before .batch-cause .result) (t .enum-told .given .1) (t .before .before .batch-cause .ensures), leaders-lent (s .args .n) (s .args .k) (s .args .rows .now) (s .args .reading) (s .args .words .now) (s .args .out .now) (s .args .counts .now) (s .args .work .now) (t .before .before .batch-cause .result) (t .enum-told .given .1) (t .before .before .batch-cause .ensures) (p .result) (p .ensures) (b .last .1 .1 .1 .0) (b .result) (b .ensures)) at (w .ensures .0))
-    (rw (size-is (s .args .n) (s .args .k) (s .args .rows .now) (s .args .reading) (s .args .words .now) (s .args .out .now) (s .args .counts .now) (s .args .work .now) (t .before .before .batch-cause .result) (t .enum-told .given .1) (t .before .before .batch-cause .ensures), leaders-lent (s .args .n) (s .args .k) (s .args .rows .now) (s .args .reading) (s .args .words .now) (s .args .out .now) (s .args .counts .now) (s .args .work .now) (t .before .before .batch-cause .result) (t .enum-told .given .1) (t .before .before .batch-cause .ensures) (p .result) (p .ensures) (b .last .1 .1 .1 .0) (b .result) (b .ensures)) at (w .ensures .1)))
+    rw (size-is g)
+    (decode-ends g p b _ _
+    (rw (size-is g, leaders-lent g p b) at (w .ensures .0))
+    (rw (size-is g, leaders-lent g p b) at (w .ensures .1)))
 
 pub decode-spec : {M : Type 1} → statement M
 decode-spec =
