@@ -4,13 +4,18 @@ use mathlib.Core.Path.{_≡_, refl}
 use mathlib.Core.List.{List, [], _∷_}
 use Prim.Native.Nat.{ℕ}
 use lib.Count.{ones, trailingZeros}
+use Rattle.coding.specs.Word.{parity}
 use Rattle.coding.specs.Matrix.{encode, messageOf}
 use Rattle.coding.specs.Reduced.{reducedRows}
 use Rattle.coding.specs.Weight.{dmin, weightCount, weightCounts}
+use Rattle.coding.specs.Lists.{tabulate}
+use Rattle.coding.specs.Leader.{leaderOf}
 use Rattle.linear.specs.Refusal.{numberOf, valueOf}
 use Rattle.linear.specs.Accepted.{shapeAnswer, matrixAnswer}
 use Rattle.linear.specs.declared.answer.Refusal.the-variants.{Dependent}
 use Rattle.linear.specs.declared.answer.Answer.the-variants.{Done, Refused}
+use Rattle.decoder.specs.Decoded.{wordOf, countOf}
+use Rattle.decoder.specs.declared.outcomes.Reading.the-variants.{Nearest}
 
 -- (7,4) with rows 1101000, 0110100, 1110010, 1010001
 abbrev seven : List ℕ
@@ -44,6 +49,33 @@ seven-weights = refl
 seven-message : messageOf seven 0b1101001 ≡ 0b1101
 unfolding messageOf
 seven-message = refl
+
+-- 1001111 gives 1001011, count 1, message 1011
+seven-first : wordOf 7 seven Nearest 0b1111001 ≡ 0b1101001
+unfolding parity trailingZeros ones
+seven-first = refl
+
+seven-first-count : countOf 7 seven Nearest 0b1111001 ≡ 1
+unfolding parity trailingZeros ones
+seven-first-count = refl
+
+-- 1000100 gives 1000110, count 1
+seven-second : wordOf 7 seven Nearest 0b0010001 ≡ 0b0110001
+unfolding parity trailingZeros ones
+seven-second = refl
+
+seven-second-count : countOf 7 seven Nearest 0b0010001 ≡ 1
+unfolding parity trailingZeros ones
+seven-second-count = refl
+
+-- rows 10111, 01101
+abbrev five : List ℕ
+five = 0b11101 ∷ 0b10110 ∷ []
+
+-- its leaders: two of weight 2, 00110 and 10100
+five-leaders : tabulate (leaderOf 5 five) 8 ≡ 0b00000 ∷ 0b00100 ∷ 0b01000 ∷ 0b01100 ∷ 0b10000 ∷ 0b00010 ∷ 0b00101 ∷ 0b00001 ∷ []
+unfolding parity trailingZeros ones
+five-leaders = refl
 
 -- n = 4, rows 1100, 1010, 0110: number 4, row 2
 dependent-rows : matrixAnswer 4 3 (0b0011 ∷ 0b0101 ∷ 0b0110 ∷ []) ≡ Refused (Dependent 2)
