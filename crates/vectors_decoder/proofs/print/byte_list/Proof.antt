@@ -1,0 +1,47 @@
+-- `vectors_decoder::print::byte_list` is safe and ends. Assumes nothing.
+use Prim.Native.Nat.{_≤_, _-_}
+use lib.ListN.{length}
+use borrow.Author.Needs.{needs}
+use Rattle.vectors_decoder.proofs.print.byte_list.Statement.{statement}
+use Rattle.vectors_decoder.proofs.print.byte_list.Tie as tie
+
+abbrev Inv-loop : tie.InvT-loop
+Inv-loop xs i₀ i = i ≤ length xs
+
+abbrev μ-loop : tie.MeasureT-loop
+μ-loop xs i₀ i = length xs - i
+
+loop-holds : tie.Need-loop-holds Inv-loop μ-loop
+loop-holds c = search needs
+
+shared-slice-read-byte-item : tie.Need-shared-slice-read-byte-item Inv-loop μ-loop
+shared-slice-read-byte-item c = search needs
+
+byte-item-requires : tie.Need-byte-item-requires Inv-loop μ-loop
+byte-item-requires c κs = search needs
+
+add-i : tie.Need-add-i Inv-loop μ-loop
+add-i c = search needs
+
+loop-less : tie.Need-loop-less Inv-loop μ-loop
+loop-less c = search needs
+
+loop-again : tie.Need-loop-again Inv-loop μ-loop
+loop-again c = search needs
+
+returns : tie.Need-returns Inv-loop μ-loop
+returns c = search needs
+
+pub byte-list-spec : {M : Type 1} → statement M
+byte-list-spec =
+    tie.close
+    (tie.spec
+    Inv-loop
+    μ-loop
+    loop-holds
+    shared-slice-read-byte-item
+    byte-item-requires
+    add-i
+    loop-less
+    loop-again
+    returns)

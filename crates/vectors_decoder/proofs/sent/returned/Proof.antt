@@ -1,0 +1,55 @@
+-- `vectors_decoder::sent::returned` is safe and ends. Assumes nothing.
+use Prim.Native.Nat.{_≤_, _-_}
+use lib.ListN.{length}
+use borrow.Author.Needs.{needs}
+use Rattle.vectors_decoder.proofs.sent.returned.Statement.{statement}
+use Rattle.vectors_decoder.proofs.sent.returned.Tie as tie
+
+abbrev Inv-loop : tie.InvT-loop
+Inv-loop sent out n₀ i₀ n i = i ≤ length sent
+
+abbrev μ-loop : tie.MeasureT-loop
+μ-loop sent out n₀ i₀ n i = length sent - i
+
+loop-holds : tie.Need-loop-holds Inv-loop μ-loop
+loop-holds c = search needs
+
+mul-counted : tie.Need-mul-counted Inv-loop μ-loop
+mul-counted c = search needs
+
+shared-slice-read-counted : tie.Need-shared-slice-read-counted Inv-loop μ-loop
+shared-slice-read-counted c = search needs
+
+slot-requires : tie.Need-slot-requires Inv-loop μ-loop
+slot-requires c κs = search needs
+
+counted-requires : tie.Need-counted-requires Inv-loop μ-loop
+counted-requires c κs = search needs
+
+add-i : tie.Need-add-i Inv-loop μ-loop
+add-i c = search needs
+
+loop-less : tie.Need-loop-less Inv-loop μ-loop
+loop-less c = search needs
+
+loop-again : tie.Need-loop-again Inv-loop μ-loop
+loop-again c = search needs
+
+returns : tie.Need-returns Inv-loop μ-loop
+returns c = search needs
+
+pub returned-spec : {M : Type 1} → statement M
+returned-spec =
+    tie.close
+    (tie.spec
+    Inv-loop
+    μ-loop
+    loop-holds
+    mul-counted
+    shared-slice-read-counted
+    slot-requires
+    counted-requires
+    add-i
+    loop-less
+    loop-again
+    returns)
