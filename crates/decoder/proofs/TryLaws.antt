@@ -8,7 +8,7 @@ use native.Mathlib.Numerals.{add-one}
 use native.Mathlib.Decide.{ℕ-discrete}
 use native.Mathlib.Omega.{arith}
 use lib.ListN.{length, getD, set, length-set, length-replicate, getD-replicate}
-use lib.Pow.{pow-lt, pow-pos, pow-mono}
+use lib.Pow.{pow-lt, pow-pos, pow-add, pow-mono}
 use lib.Bits.{xor-shifted}
 use lib.Count.{ones-cat, ones-ones}
 use Rattle.coding.specs.Word.{_⊕_, weight}
@@ -227,6 +227,46 @@ module _ (list cols : List ℕ) (m t prefix s blank : ℕ) (T : Trying list cols
         ∙ fills-step (encode cols) list m t prefix (omega (arith, two)) (omega (arith, two));
     left = S .left;
   }
+
+-- ---- pairs of places, by the higher one
+
+pub trying-upto : (list cols : List ℕ) (m t prefix s blank p : ℕ) → Trying list cols m t prefix s blank → p ≤ m → Trying list cols p t prefix s blank
+trying-upto list cols m t prefix s blank p T h = record {
+  columns = T .columns;
+  places = omega (arith, T .places);
+  some = T .some;
+  above = (T .above .0 * 2 ^ (m - p), T .above .1 ∙ ap (λ (x : ℕ). T .above .0 * x) parts ∙ sym (mul-assoc (T .above .0) (2 ^ (m - p)) (2 ^ p)));
+  room = omega (arith, T .room, pow-mono {i = p} {j = m} h);
+  light = T .light;
+  at = T .at;
+  entries = T .entries;
+  left = T .left;
+}
+  where
+    parts : 2 ^ m ≡ 2 ^ (m - p) * 2 ^ p
+    parts = let e : m ≡ m - p + p = omega arith in ap (λ (x : ℕ). 2 ^ x) e ∙ pow-add 2 (m - p) p
+
+module _ (list₀ cols : List ℕ) (m prefix s blank : ℕ) (T : Trying list₀ cols m 2 prefix s blank) where
+  pub pairs-start : 2 ≤ m → Tried list₀ cols 1 2 prefix list₀ blank
+  pairs-start h = tried-few list₀ cols 1 2 prefix s blank (trying-upto list₀ cols m 2 prefix s blank 1 T (omega (arith, h))) (omega arith)
+
+  module _ (p : ℕ) (l : 1 ≤ p) (h : p < m) where
+    up : Trying list₀ cols (p + 1) 2 prefix s blank
+    up = trying-upto list₀ cols m 2 prefix s blank (p + 1) T (omega (arith, h))
+
+    under : p + 1 - 1 ≡ p
+    under = omega arith
+
+    pub pair-fits : prefix + 2 ^ p < 2 ^ 32
+    pair-fits = rw under at (top-fits list₀ cols (p + 1) 2 prefix s blank up (omega (arith, l)) (λ e. omega (arith, e)))
+
+    module _ (list : List ℕ) (left : ℕ) (R : Tried list₀ cols p 2 prefix list left) where
+      pub pair-trying : Trying list cols p 1 (prefix + 2 ^ p) (s ⊕ getD cols p 0) left
+      pair-trying = rw under at (trying-high list₀ cols (p + 1) 2 prefix s blank up (omega (arith, l)) (λ e. omega (arith, e)) list left (rw under R))
+
+      pub pair-next : (after : List ℕ) (end : ℕ) → Tried list cols p 1 (prefix + 2 ^ p) after end → Tried list₀ cols (p + 1) 2 prefix after end
+      pair-next after end S =
+          tried-both list₀ cols (p + 1) 2 prefix s blank up (omega (arith, l)) (λ e. omega (arith, e)) list after left end (rw under R) (rw under S)
 
 -- ---- weight by weight
 

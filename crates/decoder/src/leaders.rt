@@ -63,6 +63,39 @@ fn fill_units(list: &mut [u32], cols: &[u32], m: usize, prefix: u32, s: u32, bla
     left
 }
 
+// The words prefix + 2^p + 2^q for the places q below p below m, in rising order.
+fn fill_pairs(list: &mut [u32], cols: &[u32], m: usize, prefix: u32, s: u32, blank: u32) -> u32
+    requires { ⌜ (2 ≤ m) × Trying (now list) (now cols) m 2 prefix s blank ⌝ }
+    ensures { λ r. ⌜ Tried (now (list .entry)) (now (cols .entry)) m 2 prefix (now (list .exit)) r ⌝ }
+{
+    let mut left = blank;
+    let mut p: usize = 1;
+    while p < m {
+        left = fill_units(list, cols, p, prefix + (1u32 << p), s ^ cols[p], left);
+        p += 1;
+    }
+    left
+}
+
+// The words of weight 1 or 2, without recursion.
+fn fill_few(
+    list: &mut [u32],
+    cols: &[u32],
+    m: usize,
+    t: usize,
+    prefix: u32,
+    s: u32,
+    blank: u32,
+) -> u32
+    requires { ⌜ (t ≤ m) × (t < 3) × Trying (now list) (now cols) m t prefix s blank ⌝ }
+    ensures { λ r. ⌜ Tried (now (list .entry)) (now (cols .entry)) m t prefix (now (list .exit)) r ⌝ }
+{
+    if t == 1 {
+        return fill_units(list, cols, m, prefix, s, blank);
+    }
+    fill_pairs(list, cols, m, prefix, s, blank)
+}
+
 // The words of m places and weight t, in rising order, with the prefix added: first those without the highest place, then those
 // with it; answers how many entries are still blank.
 fn fill_words(
@@ -83,8 +116,8 @@ fn fill_words(
     if m < t {
         return blank;
     }
-    if t == 1 {
-        return fill_units(list, cols, m, prefix, s, blank);
+    if t < 3 {
+        return fill_few(list, cols, m, t, prefix, s, blank);
     }
     let k = m - 1;
     let left = fill_words(list, cols, k, t, prefix, s, blank);

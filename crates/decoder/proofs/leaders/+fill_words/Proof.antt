@@ -1,6 +1,7 @@
 -- `decoder::leaders::fill_words`: the recursion is the definition's, the words without the highest place and then those with it; the
 -- number of places falls. Assumes nothing.
 use mathlib.Core.Path.{_≡_, _∙_}
+use mathlib.Core.Logic.{_≢_}
 use native.Mathlib.Omega.{arith}
 use Rattle.coding.proofs.MachineLaws.{shl-one}
 use Rattle.decoder.proofs.TryLaws.{tried-long, tried-done, tried-few, trying-low, trying-high, tried-both, top-fits}
@@ -10,7 +11,7 @@ use borrow.Fn.PlainCycle.{Measures, is, falls, and}
 use Rattle.decoder.proofs.leaders.fill_words.Reads as fill-words
 use Rattle.decoder.proofs.leaders.fill_words.Kinds as fill-words-kinds
 use Rattle.decoder.proofs.leaders.+fill_words.Lts-fill_words as fill-words-lts
-use Rattle.decoder.proofs.leaders.fill_units.Reads as fill-units-reads
+use Rattle.decoder.proofs.leaders.fill_few.Reads as fill-few-reads
 use Rattle.decoder.proofs.leaders.+fill_words.{statement}
 use Rattle.decoder.proofs.leaders.+fill_words.Tie.{close}
 
@@ -25,9 +26,13 @@ abbrev fill-words-below : ℕ → In 2 fill-words-kinds.ps
 fill-words-below t =
     and 2 fill-words-kinds.ps (falls 2 fill-words-kinds.ps _<_ μ-fill-words t) fill-words.Pre
 
+-- three ones or more are no single one
+many : {t : ℕ} → 3 ≤ t → t ≢ 1
+many h e = omega (arith, h, e)
+
 fill-words-returns : (t : ℕ) → fill-words-lts.Need-returns (
-  fill-units-reads.Asked,
-  fill-units-reads.Learnt,
+  fill-few-reads.Asked,
+  fill-few-reads.Learnt,
   fill-words-below t,
   fill-words.Post,
 ) (fill-words-at t) fill-words.Post
@@ -38,8 +43,8 @@ fill-words-returns t c =
     tried-done (a .list .now) (a .cols .now) (a .m) (a .t) (a .prefix) (a .s) (rw (c .if1 .taken) at T)
 
 fill-words-returns-2 : (t : ℕ) → fill-words-lts.Need-returns-2 (
-  fill-units-reads.Asked,
-  fill-units-reads.Learnt,
+  fill-few-reads.Asked,
+  fill-few-reads.Learnt,
   fill-words-below t,
   fill-words.Post,
 ) (fill-words-at t) fill-words.Post
@@ -49,21 +54,21 @@ fill-words-returns-2 t c =
     let T = S .pre .1 in
     tried-few (a .list .now) (a .cols .now) (a .m) (a .t) (a .prefix) (a .s) (a .blank) T (c .if2 .taken)
 
-fill-words-fill-units-requires : (t : ℕ) → fill-words-lts.Need-fill-units-requires (
-  fill-units-reads.Asked,
-  fill-units-reads.Learnt,
+fill-words-fill-few-requires : (t : ℕ) → fill-words-lts.Need-fill-few-requires (
+  fill-few-reads.Asked,
+  fill-few-reads.Learnt,
   fill-words-below t,
   fill-words.Post,
 ) (fill-words-at t) fill-words.Post
-fill-words-fill-units-requires t c κs =
+fill-words-fill-few-requires t c κs =
     let S = c .before .before .before .before .before .before in
     let a = S .args in
     let T = S .pre .1 in
-    rw (c .before .if3 .taken) at T
+    (c .before .before .if2 .left, c .before .if3 .taken, T)
 
 fill-words-same-length : (t : ℕ) → fill-words-lts.Need-same-length (
-  fill-units-reads.Asked,
-  fill-units-reads.Learnt,
+  fill-few-reads.Asked,
+  fill-few-reads.Learnt,
   fill-words-below t,
   fill-words.Post,
 ) (fill-words-at t) fill-words.Post
@@ -71,11 +76,11 @@ fill-words-same-length t c =
     let S = c .before .before .before .before .before .before .before .before .before in
     let a = S .args in
     let T = S .pre .1 in
-    tried-long (c .before .before .fill-units .ensures)
+    tried-long (c .before .before .fill-few .ensures)
 
 fill-words-returns-3 : (t : ℕ) → fill-words-lts.Need-returns-3 (
-  fill-units-reads.Asked,
-  fill-units-reads.Learnt,
+  fill-few-reads.Asked,
+  fill-few-reads.Learnt,
   fill-words-below t,
   fill-words.Post,
 ) (fill-words-at t) fill-words.Post
@@ -83,12 +88,11 @@ fill-words-returns-3 t c =
     let S = c .before .before .before .before .before .before .before .before .before in
     let a = S .args in
     let T = S .pre .1 in
-    let e : a .t ≡ 1 = c .before .before .before .before .if3 .taken in
-    rw e (c .before .before .fill-units .ensures)
+    c .before .before .fill-few .ensures
 
 fill-words-sub-k : (t : ℕ) → fill-words-lts.Need-sub-k (
-  fill-units-reads.Asked,
-  fill-units-reads.Learnt,
+  fill-few-reads.Asked,
+  fill-few-reads.Learnt,
   fill-words-below t,
   fill-words.Post,
 ) (fill-words-at t) fill-words.Post
@@ -99,8 +103,8 @@ fill-words-sub-k t c =
     omega (arith, T .some, c .before .if2 .left)
 
 fill-words-fill-words-requires : (t : ℕ) → fill-words-lts.Need-fill-words-requires (
-  fill-units-reads.Asked,
-  fill-units-reads.Learnt,
+  fill-few-reads.Asked,
+  fill-few-reads.Learnt,
   fill-words-below t,
   fill-words.Post,
 ) (fill-words-at t) fill-words.Post
@@ -110,11 +114,11 @@ fill-words-fill-words-requires t c κs =
     let T = S .pre .1 in
     let E = c .before in
     let le : a .t ≤ a .m = E .before .if2 .left in
-    (omega (arith, S .pre .0, T .some, le), trying-low (a .list .now) (a .cols .now) (a .m) (a .t) (a .prefix) (a .s) (a .blank) T le (E .if3 .left))
+    (omega (arith, S .pre .0, T .some, le), trying-low (a .list .now) (a .cols .now) (a .m) (a .t) (a .prefix) (a .s) (a .blank) T le (many (E .if3 .left)))
 
 fill-words-sub-fill-words : (t : ℕ) → fill-words-lts.Need-sub-fill-words (
-  fill-units-reads.Asked,
-  fill-units-reads.Learnt,
+  fill-few-reads.Asked,
+  fill-few-reads.Learnt,
   fill-words-below t,
   fill-words.Post,
 ) (fill-words-at t) fill-words.Post
@@ -125,8 +129,8 @@ fill-words-sub-fill-words t c =
     T .some
 
 fill-words-cast-fill-words : (t : ℕ) → fill-words-lts.Need-cast-fill-words (
-  fill-units-reads.Asked,
-  fill-units-reads.Learnt,
+  fill-few-reads.Asked,
+  fill-few-reads.Learnt,
   fill-words-below t,
   fill-words.Post,
 ) (fill-words-at t) fill-words.Post
@@ -137,8 +141,8 @@ fill-words-cast-fill-words t c =
     record { fits = omega (arith, T .places) }
 
 fill-words-shl-fill-words : (t : ℕ) → fill-words-lts.Need-shl-fill-words (
-  fill-units-reads.Asked,
-  fill-units-reads.Learnt,
+  fill-few-reads.Asked,
+  fill-few-reads.Learnt,
   fill-words-below t,
   fill-words.Post,
 ) (fill-words-at t) fill-words.Post
@@ -151,8 +155,8 @@ fill-words-shl-fill-words t c =
     omega (arith, T .places, T .some)
 
 fill-words-add-fill-words : (t : ℕ) → fill-words-lts.Need-add-fill-words (
-  fill-units-reads.Asked,
-  fill-units-reads.Learnt,
+  fill-few-reads.Asked,
+  fill-few-reads.Learnt,
   fill-words-below t,
   fill-words.Post,
 ) (fill-words-at t) fill-words.Post
@@ -164,12 +168,12 @@ fill-words-add-fill-words t c =
     let le : a .t ≤ a .m = E .before .if2 .left in
     record {
       fits = rw (shl-one (a .m - 1) 32 (omega (arith, T .places, T .some)))
-          (top-fits (a .list .now) (a .cols .now) (a .m) (a .t) (a .prefix) (a .s) (a .blank) T le (E .if3 .left));
+          (top-fits (a .list .now) (a .cols .now) (a .m) (a .t) (a .prefix) (a .s) (a .blank) T le (many (E .if3 .left)));
     }
 
 fill-words-mul-fill-words : (t : ℕ) → fill-words-lts.Need-mul-fill-words (
-  fill-units-reads.Asked,
-  fill-units-reads.Learnt,
+  fill-few-reads.Asked,
+  fill-few-reads.Learnt,
   fill-words-below t,
   fill-words.Post,
 ) (fill-words-at t) fill-words.Post
@@ -181,8 +185,8 @@ fill-words-mul-fill-words t c =
 
 fill-words-shared-slice-read-fill-words :
     (t : ℕ) → fill-words-lts.Need-shared-slice-read-fill-words (
-      fill-units-reads.Asked,
-      fill-units-reads.Learnt,
+      fill-few-reads.Asked,
+      fill-few-reads.Learnt,
       fill-words-below t,
       fill-words.Post,
     ) (fill-words-at t) fill-words.Post
@@ -195,8 +199,8 @@ fill-words-shared-slice-read-fill-words t c =
     omega (arith, T .places, T .columns, T .some)
 
 fill-words-fill-words-requires-2 : (t : ℕ) → fill-words-lts.Need-fill-words-requires-2 (
-  fill-units-reads.Asked,
-  fill-units-reads.Learnt,
+  fill-few-reads.Asked,
+  fill-few-reads.Learnt,
   fill-words-below t,
   fill-words.Post,
 ) (fill-words-at t) fill-words.Post
@@ -209,12 +213,12 @@ fill-words-fill-words-requires-2 t c κs =
     let F = c .before .before .before .before .fill-words in (
       omega (arith, S .pre .0, T .some, le),
       rw (shl-one (a .m - 1) 32 (omega (arith, T .places, T .some)))
-          (trying-high (a .list .now) (a .cols .now) (a .m) (a .t) (a .prefix) (a .s) (a .blank) T le (E .if3 .left) (F .last .0) (F .result) (F .ensures)),
+          (trying-high (a .list .now) (a .cols .now) (a .m) (a .t) (a .prefix) (a .s) (a .blank) T le (many (E .if3 .left)) (F .last .0) (F .result) (F .ensures)),
     )
 
 fill-words-same-length-2 : (t : ℕ) → fill-words-lts.Need-same-length-2 (
-  fill-units-reads.Asked,
-  fill-units-reads.Learnt,
+  fill-few-reads.Asked,
+  fill-few-reads.Learnt,
   fill-words-below t,
   fill-words.Post,
 ) (fill-words-at t) fill-words.Post
@@ -225,8 +229,8 @@ fill-words-same-length-2 t c =
     tried-long (c .before .before .fill-words2 .ensures) ∙ tried-long (c .before .before .before .before .before .before .before .fill-words .ensures)
 
 fill-words-returns-4 : (t : ℕ) → fill-words-lts.Need-returns-4 (
-  fill-units-reads.Asked,
-  fill-units-reads.Learnt,
+  fill-few-reads.Asked,
+  fill-few-reads.Learnt,
   fill-words-below t,
   fill-words.Post,
 ) (fill-words-at t) fill-words.Post
@@ -238,13 +242,13 @@ fill-words-returns-4 t c =
     let le : a .t ≤ a .m = E .before .if2 .left in
     let F = c .before .before .before .before .before .before .before .fill-words in
     let G = c .before .before .fill-words2 in
-    tried-both (a .list .now) (a .cols .now) (a .m) (a .t) (a .prefix) (a .s) (a .blank) T le (E .if3 .left) (F .last .0) (G .last .0) (F .result) (G .result)
+    tried-both (a .list .now) (a .cols .now) (a .m) (a .t) (a .prefix) (a .s) (a .blank) T le (many (E .if3 .left)) (F .last .0) (G .last .0) (F .result) (G .result)
     (F .ensures) (rw (shl-one (a .m - 1) 32 (omega (arith, T .places, T .some))) at (G .ensures))
 
 pub +fill-words-spec : {M : Type 1} → statement M
 +fill-words-spec = close μ-fill-words λ t. fill-words-lts.spec (
-  fill-units-reads.Asked,
-  fill-units-reads.Learnt,
+  fill-few-reads.Asked,
+  fill-few-reads.Learnt,
   fill-words-below t,
   fill-words.Post,
 )
@@ -252,7 +256,7 @@ pub +fill-words-spec : {M : Type 1} → statement M
     fill-words.Post
     (fill-words-returns t)
     (fill-words-returns-2 t)
-    (fill-words-fill-units-requires t)
+    (fill-words-fill-few-requires t)
     (fill-words-same-length t)
     (fill-words-returns-3 t)
     (fill-words-sub-k t)
