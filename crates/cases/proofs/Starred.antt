@@ -14,14 +14,11 @@ use Rattle.linear.specs.Refusal.{numberOf, valueOf}
 use Rattle.linear.specs.Accepted.{shapeAnswer, matrixAnswer}
 use Rattle.linear.specs.declared.answer.Refusal.the-variants.{Dependent}
 use Rattle.linear.specs.declared.answer.Answer.the-variants.{Done, Refused}
+use Rattle.cases.specs.Matrices.{seven, five, four}
 use Rattle.decoder.specs.Decoded.{wordOf, countOf}
 use Rattle.decoder.specs.declared.outcomes.Reading.the-variants.{Nearest}
 
--- (7,4) with rows 1101000, 0110100, 1110010, 1010001
-abbrev seven : List ℕ
-seven = 0b0001011 ∷ 0b0010110 ∷ 0b0100111 ∷ 0b1000101 ∷ []
-
--- it is accepted
+-- the (7,4) matrix is accepted
 seven-accepted : matrixAnswer 7 4 seven ≡ Done
 unfolding matrixAnswer shapeAnswer messageOf
 seven-accepted = refl
@@ -68,17 +65,13 @@ seven-second-count : countOf 7 seven Nearest 0b0010001 ≡ 1
 unfolding parity trailingZeros ones
 seven-second-count = refl
 
--- rows 10111, 01101
-abbrev five : List ℕ
-five = 0b11101 ∷ 0b10110 ∷ []
-
--- its leaders: two of weight 2, 00110 and 10100
+-- rows 10111, 01101: two leaders of weight 2, 00110 and 10100
 five-leaders : tabulate (leaderOf 5 five) 8 ≡ 0b00000 ∷ 0b00100 ∷ 0b01000 ∷ 0b01100 ∷ 0b10000 ∷ 0b00010 ∷ 0b00101 ∷ 0b00001 ∷ []
 unfolding parity trailingZeros ones
 five-leaders = refl
 
 -- n = 4, rows 1100, 1010, 0110: number 4, row 2
-dependent-rows : matrixAnswer 4 3 (0b0011 ∷ 0b0101 ∷ 0b0110 ∷ []) ≡ Refused (Dependent 2)
+dependent-rows : matrixAnswer 4 3 four ≡ Refused (Dependent 2)
 unfolding matrixAnswer shapeAnswer messageOf
 dependent-rows = refl
 
