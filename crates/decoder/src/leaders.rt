@@ -43,7 +43,14 @@ fn clear(list: &mut [u32])
 }
 
 // The words prefix + 2^p for the places p below m, in rising order; answers how many entries are still blank.
-fn fill_units(list: &mut [u32], cols: &[u32], m: usize, prefix: u32, s: u32, blank: u32) -> u32
+fn fill_units(
+    list: &mut [u32],
+    cols: &[u32; WIDTH],
+    m: usize,
+    prefix: u32,
+    s: u32,
+    blank: u32,
+) -> u32
     requires { ⌜ Trying (now list) (now cols) m 1 prefix s blank ⌝ }
     ensures { λ r. ⌜ Tried (now (list .entry)) (now (cols .entry)) m 1 prefix (now (list .exit)) r ⌝ }
 {
@@ -64,7 +71,14 @@ fn fill_units(list: &mut [u32], cols: &[u32], m: usize, prefix: u32, s: u32, bla
 }
 
 // The words prefix + 2^p + 2^q for the places q below p below m, in rising order.
-fn fill_pairs(list: &mut [u32], cols: &[u32], m: usize, prefix: u32, s: u32, blank: u32) -> u32
+fn fill_pairs(
+    list: &mut [u32],
+    cols: &[u32; WIDTH],
+    m: usize,
+    prefix: u32,
+    s: u32,
+    blank: u32,
+) -> u32
     requires { ⌜ (2 ≤ m) × Trying (now list) (now cols) m 2 prefix s blank ⌝ }
     ensures { λ r. ⌜ Tried (now (list .entry)) (now (cols .entry)) m 2 prefix (now (list .exit)) r ⌝ }
 {
@@ -80,7 +94,7 @@ fn fill_pairs(list: &mut [u32], cols: &[u32], m: usize, prefix: u32, s: u32, bla
 // The words of weight 1 or 2, without recursion.
 fn fill_few(
     list: &mut [u32],
-    cols: &[u32],
+    cols: &[u32; WIDTH],
     m: usize,
     t: usize,
     prefix: u32,
@@ -100,7 +114,7 @@ fn fill_few(
 // with it; answers how many entries are still blank.
 fn fill_words(
     list: &mut [u32],
-    cols: &[u32],
+    cols: &[u32; WIDTH],
     m: usize,
     t: usize,
     prefix: u32,
@@ -133,7 +147,7 @@ fn fill_words(
 }
 
 // The list of the leaders: every word of n places and weight up to c has been offered.
-fn fill_list(list: &mut [u32], cols: &[u32], n: usize, c: usize)
+fn fill_list(list: &mut [u32], cols: &[u32; WIDTH], n: usize, c: usize)
     requires { ⌜ (length (now cols) ≡ 32) × (n ≤ 32) × (c < 32) × (0 < length (now list)) × (length (now list) < 2 ^ 32) ⌝ }
     requires { ⌜ ((w : ℕ) → encode (now cols) w < length (now list)) ⌝ }
     ensures { λ _. ⌜ now (list .exit) ≡ fills (encode (now (cols .entry))) (blanks (length (now (list .entry)))) (order n (suc c)) ⌝ }

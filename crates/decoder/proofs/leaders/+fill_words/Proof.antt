@@ -37,7 +37,7 @@ fill-words-returns : (t : ℕ) → fill-words-lts.Need-returns (
   fill-words.Post,
 ) (fill-words-at t) fill-words.Post
 fill-words-returns t c =
-    let S = c .before .before .before in
+    let S = c .before .before in
     let a = S .args in
     let T = S .pre .1 in
     tried-done (a .list .now) (a .cols .now) (a .m) (a .t) (a .prefix) (a .s) (rw (c .if1 .taken) at T)
@@ -49,7 +49,7 @@ fill-words-returns-2 : (t : ℕ) → fill-words-lts.Need-returns-2 (
   fill-words.Post,
 ) (fill-words-at t) fill-words.Post
 fill-words-returns-2 t c =
-    let S = c .before .before .before .before in
+    let S = c .before .before .before in
     let a = S .args in
     let T = S .pre .1 in
     tried-few (a .list .now) (a .cols .now) (a .m) (a .t) (a .prefix) (a .s) (a .blank) T (c .if2 .taken)
@@ -61,7 +61,7 @@ fill-words-fill-few-requires : (t : ℕ) → fill-words-lts.Need-fill-few-requir
   fill-words.Post,
 ) (fill-words-at t) fill-words.Post
 fill-words-fill-few-requires t c κs =
-    let S = c .before .before .before .before .before .before in
+    let S = c .before .before .before .before .before in
     let a = S .args in
     let T = S .pre .1 in
     (c .before .before .if2 .left, c .before .if3 .taken, T)
@@ -73,7 +73,7 @@ fill-words-same-length : (t : ℕ) → fill-words-lts.Need-same-length (
   fill-words.Post,
 ) (fill-words-at t) fill-words.Post
 fill-words-same-length t c =
-    let S = c .before .before .before .before .before .before .before .before .before in
+    let S = c .before .before .before .before .before .before .before .before in
     let a = S .args in
     let T = S .pre .1 in
     tried-long (c .before .before .fill-few .ensures)
@@ -85,7 +85,7 @@ fill-words-returns-3 : (t : ℕ) → fill-words-lts.Need-returns-3 (
   fill-words.Post,
 ) (fill-words-at t) fill-words.Post
 fill-words-returns-3 t c =
-    let S = c .before .before .before .before .before .before .before .before .before in
+    let S = c .before .before .before .before .before .before .before .before in
     let a = S .args in
     let T = S .pre .1 in
     c .before .before .fill-few .ensures
@@ -97,7 +97,7 @@ fill-words-sub-k : (t : ℕ) → fill-words-lts.Need-sub-k (
   fill-words.Post,
 ) (fill-words-at t) fill-words.Post
 fill-words-sub-k t c =
-    let S = c .before .before .before .before .before in
+    let S = c .before .before .before .before in
     let a = S .args in
     let T = S .pre .1 in
     omega (arith, T .some, c .before .if2 .left)
@@ -109,7 +109,7 @@ fill-words-fill-words-requires : (t : ℕ) → fill-words-lts.Need-fill-words-re
   fill-words.Post,
 ) (fill-words-at t) fill-words.Post
 fill-words-fill-words-requires t c κs =
-    let S = c .before .before .before .before .before .before in
+    let S = c .before .before .before .before .before in
     let a = S .args in
     let T = S .pre .1 in
     let E = c .before in
@@ -123,7 +123,7 @@ fill-words-sub-fill-words : (t : ℕ) → fill-words-lts.Need-sub-fill-words (
   fill-words.Post,
 ) (fill-words-at t) fill-words.Post
 fill-words-sub-fill-words t c =
-    let S = c .before .before .before .before .before .before .before .before .before .before in
+    let S = c .before .before .before .before .before .before .before .before .before in
     let a = S .args in
     let T = S .pre .1 in
     T .some
@@ -135,7 +135,7 @@ fill-words-cast-fill-words : (t : ℕ) → fill-words-lts.Need-cast-fill-words (
   fill-words.Post,
 ) (fill-words-at t) fill-words.Post
 fill-words-cast-fill-words t c =
-    let S = c .before .before .before .before .before .before .before .before .before .before in
+    let S = c .before .before .before .before .before .before .before .before .before in
     let a = S .args in
     let T = S .pre .1 in
     record { fits = omega (arith, T .places) }
@@ -147,7 +147,7 @@ fill-words-shl-fill-words : (t : ℕ) → fill-words-lts.Need-shl-fill-words (
   fill-words.Post,
 ) (fill-words-at t) fill-words.Post
 fill-words-shl-fill-words t c =
-    let S = c .before .before .before .before .before .before .before .before .before .before in
+    let S = c .before .before .before .before .before .before .before .before .before in
     let a = S .args in
     let T = S .pre .1 in
     let E = c .before .before .before .before .before in
@@ -161,7 +161,7 @@ fill-words-add-fill-words : (t : ℕ) → fill-words-lts.Need-add-fill-words (
   fill-words.Post,
 ) (fill-words-at t) fill-words.Post
 fill-words-add-fill-words t c =
-    let S = c .before .before .before .before .before .before .before .before .before .before in
+    let S = c .before .before .before .before .before .before .before .before .before in
     let a = S .args in
     let T = S .pre .1 in
     let E = c .before .before .before .before .before in
@@ -178,23 +178,23 @@ fill-words-mul-fill-words : (t : ℕ) → fill-words-lts.Need-mul-fill-words (
   fill-words.Post,
 ) (fill-words-at t) fill-words.Post
 fill-words-mul-fill-words t c =
-    let S = c .before .before .before .before .before .before .before .before .before .before in
+    let S = c .before .before .before .before .before .before .before .before .before in
     let a = S .args in
     let T = S .pre .1 in
     record { fits = omega (arith, T .places) }
 
-fill-words-shared-slice-read-fill-words :
-    (t : ℕ) → fill-words-lts.Need-shared-slice-read-fill-words (
+fill-words-element-copy-out-fill-words :
+    (t : ℕ) → fill-words-lts.Need-element-copy-out-fill-words (
       fill-few-reads.Asked,
       fill-few-reads.Learnt,
       fill-words-below t,
       fill-words.Post,
     ) (fill-words-at t) fill-words.Post
-fill-words-shared-slice-read-fill-words t c =
-    let S = c .before .before .before .before .before .before .before .before .before .before .before in
+fill-words-element-copy-out-fill-words t c =
+    let S = c .before .before .before .before .before .before .before .before .before in
     let a = S .args in
     let T = S .pre .1 in
-    let E = c .before .before .before .before .before .before in
+    let E = c .before .before .before .before .before in
     let le : a .t ≤ a .m = E .before .if2 .left in
     omega (arith, T .places, T .columns, T .some)
 
@@ -205,7 +205,7 @@ fill-words-fill-words-requires-2 : (t : ℕ) → fill-words-lts.Need-fill-words-
   fill-words.Post,
 ) (fill-words-at t) fill-words.Post
 fill-words-fill-words-requires-2 t c κs =
-    let S = c .before .before .before .before .before .before .before .before .before .before .before in
+    let S = c .before .before .before .before .before .before .before .before .before .before in
     let a = S .args in
     let T = S .pre .1 in
     let E = c .before .before .before .before .before .before in
@@ -223,7 +223,7 @@ fill-words-same-length-2 : (t : ℕ) → fill-words-lts.Need-same-length-2 (
   fill-words.Post,
 ) (fill-words-at t) fill-words.Post
 fill-words-same-length-2 t c =
-    let S = c .before .before .before .before .before .before .before .before .before .before .before .before .before .before in
+    let S = c .before .before .before .before .before .before .before .before .before .before .before .before .before in
     let a = S .args in
     let T = S .pre .1 in
     tried-long (c .before .before .fill-words2 .ensures) ∙ tried-long (c .before .before .before .before .before .before .before .fill-words .ensures)
@@ -235,7 +235,7 @@ fill-words-returns-4 : (t : ℕ) → fill-words-lts.Need-returns-4 (
   fill-words.Post,
 ) (fill-words-at t) fill-words.Post
 fill-words-returns-4 t c =
-    let S = c .before .before .before .before .before .before .before .before .before .before .before .before .before .before in
+    let S = c .before .before .before .before .before .before .before .before .before .before .before .before .before in
     let a = S .args in
     let T = S .pre .1 in
     let E = c .before .before .before .before .before .before .before .before .before in
@@ -266,7 +266,7 @@ pub +fill-words-spec : {M : Type 1} → statement M
     (fill-words-shl-fill-words t)
     (fill-words-add-fill-words t)
     (fill-words-mul-fill-words t)
-    (fill-words-shared-slice-read-fill-words t)
+    (fill-words-element-copy-out-fill-words t)
     (fill-words-fill-words-requires-2 t)
     (fill-words-same-length-2 t)
     (fill-words-returns-4 t)

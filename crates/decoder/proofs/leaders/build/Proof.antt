@@ -16,9 +16,6 @@ use Rattle.decoder.proofs.leaders.build.Tie as tie
 columns-requires : tie.Need-columns-requires
 columns-requires c κs = search needs
 
-slice-aggregate-fill-list : tie.Need-slice-aggregate-fill-list
-slice-aggregate-fill-list c = search needs
-
 fill-list-requires : tie.Need-fill-list-requires
 fill-list-requires c κs =
     let s = c .before .before .before .before in
@@ -52,7 +49,6 @@ build-spec =
     tie.close
     (tie.spec
     columns-requires
-    slice-aggregate-fill-list
     fill-list-requires
     first-blank-requires
     same-length

@@ -18,12 +18,12 @@ same-length c = search needs
 
 returns : tie.Need-returns
 returns c =
-    let e : c .before .before .before .before .before .before .before .args .t ≡ 1 = c .before .before .before .before .if1 .taken in
+    let e : c .before .before .before .before .before .before .args .t ≡ 1 = c .before .before .before .before .if1 .taken in
     rw e (c .before .before .fill-units .ensures)
 
 fill-pairs-requires : tie.Need-fill-pairs-requires
 fill-pairs-requires c κs =
-    let s = c .before .before .before .before in
+    let s = c .before .before .before in
     let e : s .args .t ≡ 2 = two (s .pre .2 .some) (s .pre .1) (c .before .if1 .left) in
     (omega (arith, e, s .pre .0), rw e at (s .pre .2))
 
@@ -32,7 +32,7 @@ same-length-2 c = search needs
 
 returns-2 : tie.Need-returns-2
 returns-2 c =
-    let s = c .before .before .before .before .before .before .before in
+    let s = c .before .before .before .before .before .before in
     let e : s .args .t ≡ 2 = two (s .pre .2 .some) (s .pre .1) (c .before .before .before .before .if1 .left) in
     rw e (c .before .before .fill-pairs .ensures)
 

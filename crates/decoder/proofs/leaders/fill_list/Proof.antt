@@ -21,59 +21,44 @@ abbrev μ-loop : tie.MeasureT-loop
 clear-requires : tie.Need-clear-requires Inv-loop μ-loop
 clear-requires c κs = search needs
 
-slice-write-list : tie.Need-slice-write-list Inv-loop μ-loop
-slice-write-list c =
-    let K = c in
+-- the list is as long as it was
+long : (K : tie.After-slice-known2 Inv-loop μ-loop)
+    → length (set (K .before .before .clear .last .0) 0 0) ≡ length (K .before .before .before .before .before .args .list .now)
+long K =
     let L = K .before .before .clear in
-    let s = K .before .before .before .before .before .before in
-    let size = length (s .args .list .now) in
-    let long : length (set (L .last .0) 0 0) ≡ length (s .args .list .now)
-    = length-set (L .last .0) 0 0 ∙ ap length (L .ensures) ∙ length-replicate (length (s .args .list .now)) noLeader in
-    omega (arith, long, length-set (L .last .0) 0 0, s .pre)
+    length-set (L .last .0) 0 0 ∙ ap length (L .ensures) ∙ length-replicate (length (K .before .before .before .before .before .args .list .now)) noLeader
+
+slice-write-list : tie.Need-slice-write-list Inv-loop μ-loop
+slice-write-list K =
+    let L = K .before .before .clear in
+    let s = K .before .before .before .before .before in
+    omega (arith, long K, length-set (L .last .0) 0 0, s .pre)
 
 sub-left : tie.Need-sub-left Inv-loop μ-loop
-sub-left c =
-    let K = c in
-    let L = K .before .before .clear in
-    let s = K .before .before .before .before .before .before in
-    let size = length (s .args .list .now) in
-    let long : length (set (L .last .0) 0 0) ≡ length (s .args .list .now)
-    = length-set (L .last .0) 0 0 ∙ ap length (L .ensures) ∙ length-replicate (length (s .args .list .now)) noLeader in
-    omega (arith, long, s .pre)
+sub-left K =
+    let s = K .before .before .before .before .before in
+    omega (arith, long K, s .pre)
 
 cast-left : tie.Need-cast-left Inv-loop μ-loop
-cast-left c =
-    let K = c in
-    let L = K .before .before .clear in
-    let s = K .before .before .before .before .before .before in
-    let size = length (s .args .list .now) in
-    let long : length (set (L .last .0) 0 0) ≡ length (s .args .list .now)
-    = length-set (L .last .0) 0 0 ∙ ap length (L .ensures) ∙ length-replicate (length (s .args .list .now)) noLeader in
-    record { fits = omega (arith, long, s .pre) }
+cast-left K =
+    let s = K .before .before .before .before .before in
+    record { fits = omega (arith, long K, s .pre) }
 
 loop-holds : tie.Need-loop-holds Inv-loop μ-loop
-loop-holds c =
-    let K = c in
+loop-holds K =
     let L = K .before .before .clear in
-    let s = K .before .before .before .before .before .before in
-    let size = length (s .args .list .now) in
-    let long : length (set (L .last .0) 0 0) ≡ length (s .args .list .now)
-    = length-set (L .last .0) 0 0 ∙ ap length (L .ensures) ∙ length-replicate (length (s .args .list .now)) noLeader in
-    let O = offered-start size (s .args .cols .now) (s .args .n) (s .pre .0 .3) in
-    (search needs, search needs, rw (long, L .ensures) O)
+    let s = K .before .before .before .before .before in
+    let O = offered-start (length (s .args .list .now)) (s .args .cols .now) (s .args .n) (s .pre .0 .3) in
+    (search needs, search needs, rw (long K, L .ensures) O)
 
 fill-words-requires : tie.Need-fill-words-requires Inv-loop μ-loop
 fill-words-requires c κs =
     let A = c .before .before in
     let K = A .before in
-    let L = K .before .before .clear in
-    let s = K .before .before .before .before .before .before in
-    let size = length (s .args .list .now) in
-    let long : length (set (L .last .0) 0 0) ≡ length (s .args .list .now)
-    = length-set (L .last .0) 0 0 ∙ ap length (L .ensures) ∙ length-replicate (length (s .args .list .now)) noLeader in
+    let s = K .before .before .before .before .before in
     let h : A .loop .t ≤ s .args .c = c .before .loop-test .taken in
     offered-trying _ (s .args .cols .now) (s .args .n) (A .loop .t) (A .loop .list) (A .loop .left) (A .loop .inv .2) (s .pre .0 .0) (s .pre .0 .1)
-    (A .loop .inv .0) (omega (arith, s .pre)) (λ w. rw long (s .pre .1 w))
+    (A .loop .inv .0) (omega (arith, s .pre)) (λ w. rw (long K) (s .pre .1 w))
 
 add-t : tie.Need-add-t Inv-loop μ-loop
 add-t c = search needs
@@ -84,7 +69,7 @@ loop-less c = search needs
 loop-again : tie.Need-loop-again Inv-loop μ-loop
 loop-again c =
     let A = c .before .before .before .before .before in
-    let s = A .before .before .before .before .before .before .before in
+    let s = A .before .before .before .before .before .before in
     let h : A .loop .t ≤ s .args .c = c .before .before .before .before .loop-test .taken in
     let F = c .before .before .fill-words in (
       omega arith,
@@ -96,25 +81,18 @@ same-length : tie.Need-same-length Inv-loop μ-loop
 same-length c =
     let A = c .before in
     let K = A .before in
-    let L = K .before .before .clear in
-    let s = K .before .before .before .before .before .before in
-    let size = length (s .args .list .now) in
-    let long : length (set (L .last .0) 0 0) ≡ length (s .args .list .now)
-    = length-set (L .last .0) 0 0 ∙ ap length (L .ensures) ∙ length-replicate (length (s .args .list .now)) noLeader in
-    A .loop .inv .2 .long ∙ long
+    let s = K .before .before .before .before .before in
+    A .loop .inv .2 .long ∙ long K
 
 returns : tie.Need-returns Inv-loop μ-loop
 returns c =
     let A = c .before in
     let K = A .before in
     let L = K .before .before .clear in
-    let s = K .before .before .before .before .before .before in
-    let size = length (s .args .list .now) in
-    let long : length (set (L .last .0) 0 0) ≡ length (s .args .list .now)
-    = length-set (L .last .0) 0 0 ∙ ap length (L .ensures) ∙ length-replicate (length (s .args .list .now)) noLeader in
+    let s = K .before .before .before .before .before in
     let e : A .loop .t ≡ suc (s .args .c) = omega (arith, c .loop-test .left, A .loop .inv .1) in
     let f : A .loop .list ≡ fills (encode (s .args .cols .now)) (blanks (length (set (L .last .0) 0 0))) (order (s .args .n) (A .loop .t)) = A .loop .inv .2 .filled in
-    rw (long, e) at f
+    rw (long K, e) at f
 
 pub fill-list-spec : {M : Type 1} → statement M
 fill-list-spec =

@@ -17,49 +17,49 @@ abbrev μ-loop : tie.MeasureT-loop
 
 loop-holds : tie.Need-loop-holds Inv-loop μ-loop
 loop-holds c =
-    let s = c .before .before in
+    let s = c .before in
     let a = s .args in
     (omega arith, omega (arith, s .pre .0), pairs-start (a .list .now) (a .cols .now) (a .m) (a .prefix) (a .s) (a .blank) (s .pre .1) (s .pre .0))
 
 cast-fill-units : tie.Need-cast-fill-units Inv-loop μ-loop
 cast-fill-units c =
     let o = c .before .before .loop in
-    let s = c .before .before .before .before .before in
+    let s = c .before .before .before .before in
     let a = s .args in
     record { fits = omega (arith, s .pre .1 .places, c .before .loop-test .taken) }
 
 shl-fill-units : tie.Need-shl-fill-units Inv-loop μ-loop
 shl-fill-units c =
     let o = c .before .before .loop in
-    let s = c .before .before .before .before .before in
+    let s = c .before .before .before .before in
     let a = s .args in
     omega (arith, s .pre .1 .places, c .before .loop-test .taken)
 
 add-fill-units : tie.Need-add-fill-units Inv-loop μ-loop
 add-fill-units c =
     let o = c .before .before .loop in
-    let s = c .before .before .before .before .before in
+    let s = c .before .before .before .before in
     let a = s .args in
     record { fits = rw (shl-one (o .p) 32 (omega (arith, s .pre .1 .places, c .before .loop-test .taken))) (pair-fits (a .list .now) (a .cols .now) (a .m) (a .prefix) (a .s) (a .blank) (s .pre .1) (o .p) (o .inv .0) (c .before .loop-test .taken)) }
 
 mul-fill-units : tie.Need-mul-fill-units Inv-loop μ-loop
 mul-fill-units c =
     let o = c .before .before .loop in
-    let s = c .before .before .before .before .before in
+    let s = c .before .before .before .before in
     let a = s .args in
     record { fits = omega (arith, s .pre .1 .places, c .before .loop-test .taken) }
 
-shared-slice-read-fill-units : tie.Need-shared-slice-read-fill-units Inv-loop μ-loop
-shared-slice-read-fill-units c =
-    let o = c .before .before .before .loop in
-    let s = c .before .before .before .before .before .before in
+element-copy-out-fill-units : tie.Need-element-copy-out-fill-units Inv-loop μ-loop
+element-copy-out-fill-units c =
+    let o = c .before .before .loop in
+    let s = c .before .before .before .before in
     let a = s .args in
-    omega (arith, s .pre .1 .places, s .pre .1 .columns, c .before .before .loop-test .taken)
+    omega (arith, s .pre .1 .places, s .pre .1 .columns, c .before .loop-test .taken)
 
 fill-units-requires : tie.Need-fill-units-requires Inv-loop μ-loop
 fill-units-requires c κs =
     let o = c .before .before .before .loop in
-    let s = c .before .before .before .before .before .before in
+    let s = c .before .before .before .before .before in
     let a = s .args in
     rw (shl-one (o .p) 32 (omega (arith, s .pre .1 .places, c .before .before .loop-test .taken)))
     (pair-trying (a .list .now) (a .cols .now) (a .m) (a .prefix) (a .s) (a .blank) (s .pre .1) (o .p) (o .inv .0) (c .before .before .loop-test .taken) (o .list) (o .left) (o .inv .2))
@@ -73,7 +73,7 @@ loop-less c = search needs
 loop-again : tie.Need-loop-again Inv-loop μ-loop
 loop-again c =
     let o = c .before .before .before .before .before .before .loop in
-    let s = c .before .before .before .before .before .before .before .before .before in
+    let s = c .before .before .before .before .before .before .before .before in
     let a = s .args in
     let f = c .before .before .fill-units in (
       omega arith,
@@ -88,7 +88,7 @@ same-length c = tried-long (c .before .loop .inv .2)
 returns : tie.Need-returns Inv-loop μ-loop
 returns c =
     let o = c .before .loop in
-    let s = c .before .before .before .before in
+    let s = c .before .before .before in
     let a = s .args in
     let e : o .p ≡ a .m = omega (arith, o .inv .1, c .loop-test .left) in
     rw e at (o .inv .2)
@@ -104,7 +104,7 @@ fill-pairs-spec =
     shl-fill-units
     add-fill-units
     mul-fill-units
-    shared-slice-read-fill-units
+    element-copy-out-fill-units
     fill-units-requires
     add-p
     loop-less

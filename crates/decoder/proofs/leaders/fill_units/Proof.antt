@@ -49,8 +49,8 @@ stored-at i e =
 mul-x : tie.Need-mul-x Inv-loop μ-loop
 mul-x c = record { fits = omega (arith, c .loop-test .taken, c .before .before .pre .places) }
 
-shared-slice-read-x : tie.Need-shared-slice-read-x Inv-loop μ-loop
-shared-slice-read-x c = omega (arith, c .before .loop-test .taken, c .before .before .before .pre .places, c .before .before .before .pre .columns)
+element-copy-out-x : tie.Need-element-copy-out-x Inv-loop μ-loop
+element-copy-out-x c = omega (arith, c .loop-test .taken, c .before .before .pre .places, c .before .before .pre .columns)
 
 cast-x : tie.Need-cast-x Inv-loop μ-loop
 cast-x c = record { fits = lt-of-lt-of-le (lt-of-lt-of-le (at-entry (c .before)) (le-of-eq (c .before .before .loop .inv .0))) (le-of-lt (c .before .before .before .good .0 .0)) }
@@ -150,7 +150,7 @@ fill-units-spec =
     μ-loop
     loop-holds
     mul-x
-    shared-slice-read-x
+    element-copy-out-x
     cast-x
     mul-if1
     slice-read-if1
