@@ -25,3 +25,4 @@ pub mod RadiusLaws
 pub mod DecodeLaws
 pub mod BuildLaws
 pub mod LinearLaws
+pub mod SystematicLaws

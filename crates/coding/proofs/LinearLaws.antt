@@ -1,6 +1,6 @@
 -- A linear map is known by its values at the words with a single one: the sum of those that the places of a word select. Assumes nothing.
 use mathlib.Core.Path.{_≡_, refl, sym, ap, ap₂, _∙_}
-use mathlib.Core.List.{List}
+use mathlib.Core.List.{List, [], _∷_, map}
 use Prim.Native.Nat.{ℕ, zero, suc, _+_, _*_, _/_, _%_, _^_, _<_}
 use native.Mathlib.Nat.{pow-suc, mul-comm}
 use native.Mathlib.Omega.{arith}
@@ -54,6 +54,19 @@ linear-columns f z lin (suc m) w h =
     digit zero h = sym z
     digit (suc zero) h = refl
     digit (suc (suc c)) h = absurd (omega arith)
+
+-- a linear map of a sum of rows is the sum of its values at the rows
+pub encode-map : (f : ℕ → ℕ) → f 0 ≡ 0 → ((a b : ℕ) → f (a ⊕ b) ≡ f a ⊕ f b) → (rs : List ℕ) (u : ℕ) → f (encode rs u) ≡ encode (map f rs) u
+encode-map f z lin [] u = z
+encode-map f z lin (r ∷ rs) u = lin (sel (u % 2) r) (encode rs (u / 2)) ∙ ap₂ _⊕_ (digit (u % 2)) (encode-map f z lin rs (u / 2))
+  where
+    digit : (c : ℕ) → f (sel c r) ≡ sel c (f r)
+    digit zero = z
+    digit (suc c) = refl
+
+-- the rows of the identity matrix select the message itself
+pub identity-rows : (m u : ℕ) → u < 2 ^ m → encode (tabulate (λ p. 2 ^ p) m) u ≡ u
+identity-rows m u h = linear-columns (λ x. x) refl (λ a b. refl) m u h
 
 -- the syndrome by columns
 pub syndrome-columns : (hs : List ℕ) (m w : ℕ) → w < 2 ^ m → encode (tabulate (λ p. syndrome hs (2 ^ p)) m) w ≡ syndrome hs w

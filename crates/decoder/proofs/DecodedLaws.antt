@@ -23,6 +23,7 @@ use Rattle.coding.specs.Weight.{dmin}
 use Rattle.coding.specs.Leader.{syndromeOf, noLeader, IsLeader, leaderOf, nearestOf}
 use Rattle.coding.specs.Order.{order, fills, blanks}
 use Rattle.coding.specs.Radius.{NearestRule, RadiusRules}
+use Rattle.coding.proofs.WordLaws.{xor-cancel}
 use Rattle.coding.proofs.WeightLaws.{weight-zero, weight-none, distance-sym, distance-tri}
 use Rattle.coding.proofs.ListLaws.{getD-map, map-same}
 use Rattle.coding.proofs.SearchLaws.{first-is, first-upto}
@@ -32,7 +33,7 @@ use Rattle.coding.proofs.WidthLaws.{syndrome-zeros}
 use Rattle.coding.proofs.DistanceLaws.{codeword-apart}
 use Rattle.coding.proofs.DecodeLaws.{leader-is, leader-light, near-is, syndromeOf-lt}
 use Rattle.coding.proofs.BuildLaws.{All, all-more, built, fills-length, fills-same, order-below}
-use Rattle.coding.proofs.RadiusLaws.{radius-rules}
+use Rattle.coding.proofs.RadiusLaws.{one-within, radius-rules}
 use Rattle.linear.specs.Limits.{maxChecks}
 use Rattle.linear.specs.Accepted.{Accepted}
 use Rattle.linear.specs.declared.answer.Answer.the-variants.{Done}
@@ -224,6 +225,24 @@ module _ (n k : ℕ) (rows : List ℕ) (A : Accepted n k rows) where
                 → (wordOf n rows (Within r) w ≡ nearestOf n rows w) × (countOf n rows (Within r) w ≡ distance w (nearestOf n rows w))
             go (yes l) = (taken l .0, taken l .1 ∙ sym near-count)
             go (no l) = absurd (f (from (omega (arith, near-count))))
+
+    -- whoever finds an error pattern of at most r places that leads to a codeword has the outcome within r
+    pub outcome-found : (r : ℕ) → 2 * r + 1 ≤ dmin rows → (e : ℕ) → Codeword rows (w ⊕ e) → weight e ≤ r
+        → outcomeOf (Within r) w e ≡ decodedAs n rows (Within r) w
+    outcome-found r a e c l =
+        let d : distance w (w ⊕ e) ≡ weight e = ap weight (xor-cancel w e) in
+        let same : w ⊕ e ≡ nearestOf n rows w
+        = one-within ℕ ℕ-discrete distance distance-sym distance-tri (Codeword rows) (dmin rows) (codeword-apart rows) r w (w ⊕ e) (nearestOf n rows w) a c
+        (near .codeword) (omega (arith, d, l)) (le-trans (near .nearest (w ⊕ e) c) (omega (arith, d, l))) in
+        ap (outcomeOf (Within r) w)
+        (sym (xor-cancel w e) ∙ ap (λ (x : ℕ). w ⊕ x) same ∙ xor-cancel w (leaderOf n rows (syndromeOf n rows w)))
+
+    -- and where no codeword is within r, the outcome of any heavier pattern
+    pub outcome-none : (r e : ℕ) → r < weight e → ((c : ℕ) → Codeword rows c → r < distance w c)
+        → outcomeOf (Within r) w e ≡ decodedAs n rows (Within r) w
+    outcome-none r e l f =
+        outcome-far r w e l
+        ∙ sym (outcome-far r w (leaderOf n rows (syndromeOf n rows w)) (rw near-count at (f (nearestOf n rows w) (near .codeword))))
 
   pub clean-rule : (reading : Reading) (w : ℕ) → (countOf n rows reading w ≡ 0) ↔ (decodedAs n rows reading w ≡ Clean w)
   clean-rule reading w = outcome-clean reading w (leaderOf n rows (syndromeOf n rows w))

@@ -1,0 +1,4 @@
+pub mod LaneLaws
+pub mod NearLaws
+pub mod StepLaws
+pub mod AnswerLaws

@@ -1,0 +1,42 @@
+-- `golay::nearby::near_row`: the constants are lanes of P, so the lowest lane that reaches 16 is the first near row. Assumes nothing.
+use mathlib.Core.Path.{_≡_, refl, sym, ap, ap₂, _∙_}
+use Prim.Native.Nat.{ℕ, _≤_, _<_, _-_, _+_, _*_, _/_, _^_}
+use native.Mathlib.Omega.{arith}
+use lib.Bits.{bitAnd}
+use lib.Count.{ones-le, trailingZeros}
+use Rattle.coding.specs.Word.{weight}
+use Rattle.golay_code.specs.Golay.{golayChecks}
+use Rattle.golay.specs.Lanes.{lanes}
+use Rattle.golay.proofs.NearLaws.{one-lanes, row-lanes, high-lanes, near-is, overlaps-lt}
+use borrow.Author.Needs.{needs}
+use Rattle.golay.proofs.nearby.near_row.Statement.{statement}
+use Rattle.golay.proofs.nearby.near_row.Tie as tie
+
+few : (s : ℕ) → s < 2 ^ 12 → weight s ≤ 12
+few s h = ones-le 12 s h
+
+cast-half : tie.Need-cast-half
+cast-half c = omega (arith, few (c .args .s) (c .pre))
+
+overlaps-requires : tie.Need-overlaps-requires
+overlaps-requires c κs = search needs
+
+mul-reached : tie.Need-mul-reached
+mul-reached c = omega (arith, few (c .before .args .s) (c .before .pre))
+
+sub-reached : tie.Need-sub-reached
+sub-reached c = omega (arith, few (c .before .args .s) (c .before .pre))
+
+add-reached : tie.Need-add-reached
+add-reached c = omega (arith, c .overlaps .ensures, overlaps-lt (c .before .args .s) (c .before .pre))
+
+returns : tie.Need-returns
+returns c =
+    let s = c .before .args .s in
+    ap (λ (x : ℕ). trailingZeros 64 (bitAnd (c .overlaps .result + (0x5B5AD6B5AD6B5AD - weight s / 2 * 0x84210842108421)) x) / 5) high-lanes
+    ∙ near-is s (c .before .pre) (c .overlaps .result + (0x5B5AD6B5AD6B5AD - weight s / 2 * 0x84210842108421))
+    (ap₂ _+_ (c .overlaps .ensures) (ap₂ _-_ row-lanes (ap (λ (x : ℕ). weight s / 2 * x) one-lanes)))
+
+pub near-row-spec : {M : Type 1} → statement M
+near-row-spec =
+    tie.close (tie.spec cast-half overlaps-requires mul-reached sub-reached add-reached returns)

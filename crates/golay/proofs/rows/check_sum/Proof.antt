@@ -1,0 +1,72 @@
+-- `golay::rows::check_sum`: the sum so far, and the rows from i on with what is left of the message, make the sum. Assumes nothing.
+use mathlib.Core.Path.{_≡_, refl, sym, ap, _∙_}
+use mathlib.Core.List.{List}
+use Prim.Native.Nat.{ℕ, _≤_, _<_, _-_, _+_, _/_, _%_}
+use native.Mathlib.Omega.{arith}
+use lib.ListN.{length, getD, drop}
+use lib.Bits.{xor-zero-l}
+use Rattle.coding.specs.Word.{_⊕_}
+use Rattle.coding.specs.Matrix.{sel, encode}
+use Rattle.coding.proofs.MatrixLaws.{encode-step, encode-end}
+use Rattle.golay_code.specs.Golay.{golayChecks}
+use Rattle.golay_code.proofs.GolayLaws.{checkWords, checks-are, golay-size}
+use borrow.Author.Needs.{needs}
+use Rattle.golay.proofs.rows.check_sum.Statement.{statement}
+use Rattle.golay.proofs.rows.check_sum.Tie as tie
+
+abbrev Inv-loop : tie.InvT-loop
+Inv-loop message rows sum₀ m₀ i₀ sum m i = (i ≤ 12) × (sum ⊕ encode (drop i golayChecks) m ≡ encode golayChecks message)
+
+abbrev μ-loop : tie.MeasureT-loop
+μ-loop message rows sum₀ m₀ i₀ sum m i = 12 - i
+
+loop-holds : tie.Need-loop-holds Inv-loop μ-loop
+loop-holds c = (search needs, xor-zero-l (encode golayChecks (c .args .message)))
+
+mul-masked : tie.Need-mul-masked Inv-loop μ-loop
+mul-masked c = search needs
+
+array-read-masked : tie.Need-array-read-masked Inv-loop μ-loop
+array-read-masked c = search needs
+
+masked-requires : tie.Need-masked-requires Inv-loop μ-loop
+masked-requires c κs = search needs
+
+add-i : tie.Need-add-i Inv-loop μ-loop
+add-i c = search needs
+
+loop-less : tie.Need-loop-less Inv-loop μ-loop
+loop-less c = search needs
+
+loop-again : tie.Need-loop-again Inv-loop μ-loop
+unfolding checkWords
+loop-again c =
+    let l = c .before .before .loop in
+    let less : l .i < 12 = c .before .loop-test .taken in (
+      search needs,
+      ap (λ (x : ℕ). l .sum ⊕ x ⊕ encode (drop (l .i + 1) golayChecks) (l .m / 2)) (c .masked .ensures ∙ row (l .i) (l .m))
+          ∙ encode-step golayChecks (l .i) (l .m) (l .sum) _ (rw golay-size less) (l .inv .1),
+    )
+  where
+    row : (i m : ℕ) → sel (m % 2) (getD checkWords i 0) ≡ sel (m % 2) (getD golayChecks i 0)
+    row i m = ap (λ (l : List ℕ). sel (m % 2) (getD l i 0)) (sym checks-are)
+
+returns : tie.Need-returns Inv-loop μ-loop
+returns c =
+    let l = c .before .loop in
+    encode-end golayChecks (l .i) (l .m) (l .sum) _ (rw golay-size (c .loop-test .left)) (l .inv .1)
+
+pub check-sum-spec : {M : Type 1} → statement M
+check-sum-spec =
+    tie.close
+    (tie.spec
+    Inv-loop
+    μ-loop
+    loop-holds
+    mul-masked
+    array-read-masked
+    masked-requires
+    add-i
+    loop-less
+    loop-again
+    returns)

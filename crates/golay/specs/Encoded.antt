@@ -1,0 +1,16 @@
+-- 01, part 8: what the Golay encoder answers.
+use mathlib.Core.Path.{_≡_}
+use Prim.Native.Nat.{ℕ, _^_, _<_}
+use lib.Dec.{ltb}
+use Rattle.coding.specs.Matrix.{encode, messageOf}
+use Rattle.linear.specs.Refusal.{unless, ifDone}
+use Rattle.linear.specs.declared.answer.Refusal.the-variants.{WordOutside}
+use Rattle.linear.specs.declared.answer.Answer.the-variants.{Done}
+use Rattle.golay_code.specs.Golay.{golayRows}
+use Rattle.golay.specs.declared.encode.Codeword.{Codeword}
+
+-- a message of 12 places has the codeword that its rows of G sum to, any other is refused; each message comes back from its codeword
+pub record Encoded (u : ℕ) (r : Codeword) : Type 0 where
+  pub answer : r .answer ≡ unless (ltb u (2 ^ 12)) (WordOutside 0) Done
+  pub word : r .word ≡ ifDone (r .answer) (encode golayRows u) 0
+  pub back : (v : ℕ) → v < 2 ^ 12 → messageOf golayRows (encode golayRows v) ≡ v

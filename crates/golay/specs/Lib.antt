@@ -1,0 +1,5 @@
+pub mod Lanes
+pub mod Steps
+pub mod Encoded
+pub mod Decoded
+pub mod MessageRead

@@ -1,0 +1,17 @@
+-- 01, part 8: what reading a Golay codeword back answers.
+use mathlib.Core.Path.{_≡_}
+use Prim.Native.Nat.{ℕ, _/_, _^_}
+use lib.Dec.{ltb}
+use Rattle.coding.specs.Matrix.{Codeword, IsMessage, messageOf, isCodeword}
+use Rattle.linear.specs.Refusal.{unless, ifDone}
+use Rattle.linear.specs.declared.answer.Refusal.the-variants.{WordOutside, NoCodeword}
+use Rattle.linear.specs.declared.answer.Answer.the-variants.{Done}
+use Rattle.golay_code.specs.Golay.{golayRows}
+use Rattle.golay.specs.declared.message.ReadBack.{ReadBack}
+
+-- a codeword has its message, which is its places 12 to 23 and the only one; any other word is refused
+pub record MessageRead (w : ℕ) (r : ReadBack) : Type 0 where
+  pub answer : r .answer ≡ unless (ltb w (2 ^ 24)) (WordOutside 0) (unless (isCodeword golayRows w) (NoCodeword 0) Done)
+  pub message : r .message ≡ ifDone (r .answer) (messageOf golayRows w) 0
+  pub one : Codeword golayRows w → IsMessage golayRows w (messageOf golayRows w)
+  pub places : Codeword golayRows w → messageOf golayRows w ≡ w / 2 ^ 12

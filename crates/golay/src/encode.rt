@@ -1,0 +1,27 @@
+// Encode: the check places of a message, then the message.
+use crate::rows::check_sum;
+use linear::answer::Answer;
+use linear::answer::Refusal;
+use linear::word::fits;
+ghost use Rattle.golay.specs.Encoded.{Encoded};
+
+// The answer to a message of 12 places and its codeword; on a refusal the codeword is 0.
+pub struct Codeword {
+    pub answer: Answer,
+    pub word: u32,
+}
+
+pub fn encode(message: u32) -> Codeword
+    ensures { λ r. ⌜ Encoded message r ⌝ }
+{
+    if !fits(message, 12) {
+        return Codeword {
+            answer: Answer::Refused(Refusal::WordOutside(0)),
+            word: 0,
+        };
+    }
+    Codeword {
+        answer: Answer::Done,
+        word: (message << 12) ^ check_sum(message),
+    }
+}

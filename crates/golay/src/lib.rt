@@ -1,0 +1,6 @@
+// The extended Golay code (24,12): document 01, parts 6 and 8, one word at a time.
+pub mod decode; // within radius 3
+pub mod encode; // a message to its codeword
+pub mod message; // a codeword to its message
+pub mod nearby; // the row of P near a word, twelve tests side by side
+pub mod rows; // P, its row sums and the syndrome
