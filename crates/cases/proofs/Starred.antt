@@ -1,14 +1,16 @@
 -- 01, "Worked words": the starred cases, in 01's order, each by computation on the definitions that the contracts cite.
 -- A word is written as a number, place 0 lowest: 01's 1101000 is 0b0001011. Assumes nothing.
-use mathlib.Core.Path.{_≡_, refl}
+use mathlib.Core.Path.{_≡_, refl, sym, ap, _∙_}
 use mathlib.Core.List.{List, [], _∷_}
 use Prim.Native.Nat.{ℕ}
-use lib.Count.{ones, trailingZeros}
-use Rattle.coding.specs.Word.{parity}
-use Rattle.coding.specs.Matrix.{encode, messageOf}
+use lib.Dec.{lit<, lit≤}
+use lib.Count.{ones, onesIn, trailingZeros}
+use Rattle.coding.specs.Word.{_⊕_, parity, distance}
+use Rattle.coding.specs.Matrix.{encode, messageOf, Codeword}
 use Rattle.coding.specs.Reduced.{reducedRows}
 use Rattle.coding.specs.Weight.{dmin, weightCount, weightCounts}
 use Rattle.coding.specs.Lists.{tabulate}
+use Rattle.coding.specs.Radius.{RadiusRules}
 use Rattle.coding.specs.Leader.{leaderOf}
 use Rattle.linear.specs.Refusal.{numberOf, valueOf}
 use Rattle.linear.specs.Accepted.{shapeAnswer, matrixAnswer}
@@ -16,7 +18,13 @@ use Rattle.linear.specs.declared.answer.Refusal.the-variants.{Dependent}
 use Rattle.linear.specs.declared.answer.Answer.the-variants.{Done, Refused}
 use Rattle.cases.specs.Matrices.{seven, five, four}
 use Rattle.decoder.specs.Decoded.{wordOf, countOf}
+use Rattle.decoder.specs.Outcome.{wordIn, countIn}
 use Rattle.decoder.specs.declared.outcomes.Reading.the-variants.{Nearest}
+use Rattle.golay_code.specs.Golay.{golayChecks, golayRows}
+use Rattle.golay_code.proofs.WalkLaws.{ones-in}
+use Rattle.golay_code.proofs.GolayLaws.{golay-accepted}
+use Rattle.golay.specs.Decoded.{decodedTag}
+use Rattle.golay.proofs.AnswerLaws.{golay-rules}
 
 -- the (7,4) matrix is accepted
 seven-accepted : matrixAnswer 7 4 seven ≡ Done
@@ -80,3 +88,36 @@ dependent-number = refl
 
 dependent-value : valueOf (Dependent 2) ≡ 2
 dependent-value = refl
+
+-- Golay message 110000000000 gives checks 100100110110
+golay-encoded : encode golayRows 0b000000000011 ≡ 0b000000000011_011011001001
+unfolding golayChecks
+golay-encoded = refl
+
+-- 100000110100 110000000001 mends 3 places to that codeword: the one codeword within 3 places, by the rules that the decode ensures
+golayReceived : ℕ
+golayReceived = 0b100000000011_001011000001
+
+golayCodeword : ℕ
+golayCodeword = 0b000000000011_011011001001
+
+golay-three : distance golayReceived golayCodeword ≡ 3
+unfolding golayReceived golayCodeword onesIn
+golay-three = sym (ones-in 24 (golayReceived ⊕ golayCodeword) (lit< tt))
+
+golay-codeword : Codeword golayRows golayCodeword
+unfolding golayCodeword
+golay-codeword = (3, rw (golay-accepted .count) (lit< tt), sym golay-encoded)
+
+golay-rule : RadiusRules ℕ (Codeword golayRows) distance 8 3 golayReceived (wordIn (decodedTag golayReceived) golayReceived) (countIn (decodedTag golayReceived)) (countIn (decodedTag golayReceived) ≡ 255)
+unfolding golayReceived
+golay-rule = golay-rules golayReceived (lit< tt)
+
+golay-back : (countIn (decodedTag golayReceived) ≡ 255 → ⊥) × (wordIn (decodedTag golayReceived) golayReceived ≡ golayCodeword)
+golay-back = golay-rule .sent-back golayCodeword golay-codeword (rw golay-three (lit≤ tt))
+
+golay-mended : wordIn (decodedTag golayReceived) golayReceived ≡ golayCodeword
+golay-mended = golay-back .1
+
+golay-mended-count : countIn (decodedTag golayReceived) ≡ 3
+golay-mended-count = golay-rule .counted (golay-back .0) ∙ ap (distance golayReceived) golay-mended ∙ golay-three
