@@ -25,3 +25,5 @@ pub mod RadiusLaws
 pub mod DecodeLaws
 pub mod BuildLaws
 pub mod LinearLaws
+pub mod ColumnLaws
+pub mod ColumnTestLaws

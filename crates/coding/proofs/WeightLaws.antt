@@ -5,9 +5,9 @@ use Prim.Native.Nat.{ℕ, zero, suc, _+_, _*_, _/_, _%_, _^_, _≤_, _<_, min}
 use native.Mathlib.Omega.{arith}
 use lib.Arith.{bin-ind}
 use lib.Bits.{bitAnd, and-comm, and-zero-r, xor-comm, xor-self}
-use lib.Count.{ones, ones-step}
+use lib.Count.{ones, onesIn, ones-step}
 use Rattle.coding.specs.Word.{_⊕_, bit, weight, distance, parity}
-use Rattle.coding.proofs.WordLaws.{halves-eq, xor-half, xor-odd, and-half, and-odd, xor-eq, xor-assoc, xor-cancel, xor-cancel-r, bit-half, pow-half, pow-even}
+use Rattle.coding.proofs.WordLaws.{halves-eq, xor-half, xor-odd, and-half, and-odd, xor-eq, xor-assoc, xor-cancel, xor-cancel-r, bit-half, pow-half, pow-even, half-lt}
 
 pub weight-zero : weight 0 ≡ 0
 unfolding ones
@@ -15,6 +15,12 @@ weight-zero = refl
 
 digit-sum : (x y a b : ℕ) → x % 2 ≡ (a + b) % 2 → y % 2 ≡ min (a % 2) (b % 2) → x % 2 + 2 * (y % 2) ≡ a % 2 + b % 2
 digit-sum x y a b h k = omega arith
+
+-- the weight of a word of k places, in k steps: the form in which a weight is computed
+pub weight-in : (k w : ℕ) → w < 2 ^ k → onesIn k w ≡ weight w
+unfolding onesIn
+weight-in zero w h = let e : w ≡ 0 = omega arith in rw e (sym weight-zero)
+weight-in (suc k) w h = ap (λ (x : ℕ). w % 2 + x) (weight-in k (w / 2) (half-lt k h)) ∙ sym (ones-step w)
 
 -- the weights of two words, by that of their sum and that of what they share
 pub weight-xor-and : (a b : ℕ) → weight (a ⊕ b) + 2 * weight (bitAnd a b) ≡ weight a + weight b

@@ -7,3 +7,4 @@ pub mod Weight
 pub mod Leader
 pub mod Order
 pub mod Radius
+pub mod Columns
