@@ -13,7 +13,7 @@ use lib.Bits.{xor-lt, xor-self, xor-zero-r, xor-zero-l, xor-comm}
 use lib.Count.{ones-step, trailingZeros}
 use Rattle.coding.specs.Word.{_⊕_, bit, weight, distance}
 use Rattle.coding.specs.Matrix.{sel, encode, Inside}
-use Rattle.coding.specs.Columns.{SplitWord, splitDistance, units, splitSyndrome, SplitCodeword, OddColumns, SplitMinimumDistance}
+use Rattle.coding.specs.Columns.{SplitWord, splitDistance, units, splitSyndrome, SplitPlaces, SplitCodeword, OddColumns, SplitMinimumDistance}
 use Rattle.coding.proofs.WordLaws.{xor-eq, xor-four, xor-assoc, xor-cancel-r, half-lt, bit-xor, bit-pow}
 use Rattle.coding.proofs.WeightLaws.{weight-zero, weight-none, weight-xor-odd, weight-pow, weight-less, distance-sym, distance-self, distance-zero, distance-tri}
 use Rattle.coding.proofs.MatrixLaws.{encode-xor, encode-zero, encode-lt, row-message}
@@ -55,13 +55,13 @@ split-syndrome-xor c cols a b =
 
 -- a codeword's check part is the sum of the columns of its information part, and no other word has it
 pub check-is : (c : ℕ) (cols : List ℕ) (w : SplitWord) → SplitCodeword c cols w → w .check ≡ encode cols (w .info)
-check-is c cols w C = sym (units-sum c (w .check) (C .check-below)) ∙ xor-eq _ _ (C .zero-syndrome)
+check-is c cols w C = sym (units-sum c (w .check) (C .places .check)) ∙ xor-eq _ _ (C .zero-syndrome)
 
 pub encoded-codeword : (c : ℕ) (cols : List ℕ) → Inside c cols → (x : ℕ) → x < 2 ^ length cols
     → SplitCodeword c cols (record { check = encode cols x; info = x })
 encoded-codeword c cols f x h =
     let l : encode cols x < 2 ^ c = encode-lt c cols f x in
-    record { check-below = l; info-below = h; zero-syndrome = ap (λ (y : ℕ). y ⊕ encode cols x) (units-sum c (encode cols x) l) ∙ xor-self (encode cols x) }
+    record { places = record { check = l; info = h }; zero-syndrome = ap (λ (y : ℕ). y ⊕ encode cols x) (units-sum c (encode cols x) l) ∙ xor-self (encode cols x) }
 
 -- ---- one place taken out of a word
 
@@ -159,7 +159,7 @@ module _ (c : ℕ) (cols : List ℕ) (K : OddColumns c cols) where
       let x = a .info in
       let y = b .info in
       let e : a .check ⊕ b .check ≡ encode cols (x ⊕ y) = ap₂ _⊕_ (check-is c cols a A) (check-is c cols b B) ∙ sym (encode-xor cols x y) in
-      rw e (heavy (x ⊕ y) (xor-lt (length cols) x y (A .info-below) (B .info-below)) (λ z. ne (same (xor-eq x y z))))
+      rw e (heavy (x ⊕ y) (xor-lt (length cols) x y (A .places .info) (B .places .info)) (λ z. ne (same (xor-eq x y z))))
     where
       same : a .info ≡ b .info → a ≡ b
       same d = split-same (check-is c cols a A ∙ ap (encode cols) d ∙ sym (check-is c cols b B)) d
@@ -202,29 +202,22 @@ check-changed-distance w j = ap₂ _+_ (place-distance (w .check) j) (distance-s
 pub info-changed-distance : (w : SplitWord) (i : ℕ) → splitDistance w (infoChanged w i) ≡ 1
 info-changed-distance w i = ap₂ _+_ (distance-self (w .check)) (place-distance (w .info) i)
 
--- the word has the places of the code
-pub record SplitPlaces (c : ℕ) (cols : List ℕ) (w : SplitWord) : Type 0 where
-  pub check-below : w .check < 2 ^ c
-  pub info-below : w .info < 2 ^ length cols
-
 module _ (c : ℕ) (cols : List ℕ) (w : SplitWord) (P : SplitPlaces c cols w) where
   -- a syndrome equal to the column of a place: with that place changed it is 0
   pub mend-check : (j : ℕ) → j < c → splitSyndrome c cols w ≡ 2 ^ j → SplitCodeword c cols (checkChanged w j)
   mend-check j h e =
-      let l : w .check ⊕ 2 ^ j < 2 ^ c = xor-lt c (w .check) (2 ^ j) (P .check-below) (pow-lt h) in
+      let l : w .check ⊕ 2 ^ j < 2 ^ c = xor-lt c (w .check) (2 ^ j) (P .check) (pow-lt h) in
       record {
-        check-below = l;
-        info-below = P .info-below;
+        places = record { check = l; info = P .info };
         zero-syndrome =
             ap (λ (y : ℕ). y ⊕ encode cols (w .info)) (units-sum c _ l ∙ xor-comm (w .check) (2 ^ j))
             ∙ xor-assoc (2 ^ j) (w .check) (encode cols (w .info))
-            ∙ ap (λ (y : ℕ). 2 ^ j ⊕ y) (ap (λ (y : ℕ). y ⊕ encode cols (w .info)) (sym (units-sum c (w .check) (P .check-below))) ∙ e) ∙ xor-self (2 ^ j);
+            ∙ ap (λ (y : ℕ). 2 ^ j ⊕ y) (ap (λ (y : ℕ). y ⊕ encode cols (w .info)) (sym (units-sum c (w .check) (P .check))) ∙ e) ∙ xor-self (2 ^ j);
       }
 
   pub mend-info : (i : ℕ) → i < length cols → splitSyndrome c cols w ≡ getD cols i 0 → SplitCodeword c cols (infoChanged w i)
   mend-info i h e = record {
-    check-below = P .check-below;
-    info-below = xor-lt (length cols) (w .info) (2 ^ i) (P .info-below) (pow-lt h);
+    places = record { check = P .check; info = xor-lt (length cols) (w .info) (2 ^ i) (P .info) (pow-lt h) };
     zero-syndrome =
         ap (λ (y : ℕ). encode (units c) (w .check) ⊕ y) (encode-xor cols (w .info) (2 ^ i))
         ∙ sym (xor-assoc (encode (units c) (w .check)) (encode cols (w .info)) (encode cols (2 ^ i)))
@@ -247,7 +240,7 @@ module _ (c : ℕ) (cols : List ℕ) (w : SplitWord) (P : SplitPlaces c cols w) 
       s =
           sym (xor-zero-r (splitSyndrome c cols w)) ∙ ap (λ (v : ℕ). splitSyndrome c cols w ⊕ v) (sym (B .zero-syndrome))
           ∙ sym (split-syndrome-xor c cols w b)
-          ∙ ap (λ (v : ℕ). v ⊕ encode cols y) (units-sum c x (xor-lt c (w .check) (b .check) (P .check-below) (B .check-below)))
+          ∙ ap (λ (v : ℕ). v ⊕ encode cols y) (units-sum c x (xor-lt c (w .check) (b .check) (P .check) (B .places .check)))
 
       of-error : (u v z : ℕ) → x ≡ u → y ≡ v → u ⊕ encode cols v ≡ z → splitSyndrome c cols w ≡ z
       of-error u v z e f g = s ∙ ap₂ (λ (a b : ℕ). a ⊕ encode cols b) e f ∙ g
@@ -256,11 +249,11 @@ module _ (c : ℕ) (cols : List ℕ) (w : SplitWord) (P : SplitPlaces c cols w) 
           → (splitSyndrome c cols w ≡ 0) ⊎ IsColumn c cols (splitSyndrome c cols w)
       one-at zero zero e f h = inl (of-error 0 0 0 (weight-none x e) (weight-none y f) (encode-zero cols))
       one-at zero (suc zero) e f h =
-          let (q, k, p) = single (length cols) y (xor-lt (length cols) (w .info) (b .info) (P .info-below) (B .info-below)) f in
+          let (q, k, p) = single (length cols) y (xor-lt (length cols) (w .info) (b .info) (P .info) (B .places .info)) f in
           inr (inr (q, k, of-error 0 (2 ^ q) (getD cols q 0) (weight-none x e) p (row-message cols q k)))
       one-at zero (suc (suc g)) e f h = absurd (omega arith)
       one-at (suc zero) zero e f h =
-          let (q, k, p) = single c x (xor-lt c (w .check) (b .check) (P .check-below) (B .check-below)) e in
+          let (q, k, p) = single c x (xor-lt c (w .check) (b .check) (P .check) (B .places .check)) e in
           inr (inl (q, k, of-error (2 ^ q) 0 (2 ^ q) p (weight-none y f) (ap (λ (v : ℕ). 2 ^ q ⊕ v) (encode-zero cols) ∙ xor-zero-r (2 ^ q))))
       one-at (suc zero) (suc g) e f h = absurd (omega arith)
       one-at (suc (suc f)) g e k h = absurd (omega arith)

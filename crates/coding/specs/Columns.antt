@@ -31,10 +31,14 @@ splitSyndrome c cols w = encode (units c) (w .check) ⊕ encode cols (w .info)
 abbrev pub columnPlace : List ℕ → ℕ → ℕ
 columnPlace cols s = first (λ i. eqb (getD cols i 0) s) (length cols)
 
--- a codeword: no one beyond the places of either part, and the syndrome 0
+-- a word with the places of the code: no one beyond them in either part
+pub record SplitPlaces (c : ℕ) (cols : List ℕ) (w : SplitWord) : Type 0 where
+  pub check : w .check < 2 ^ c
+  pub info : w .info < 2 ^ length cols
+
+-- a codeword: such a word with the syndrome 0
 pub record SplitCodeword (c : ℕ) (cols : List ℕ) (w : SplitWord) : Type 0 where
-  pub check-below : w .check < 2 ^ c
-  pub info-below : w .info < 2 ^ length cols
+  pub places : SplitPlaces c cols w
   pub zero-syndrome : splitSyndrome c cols w ≡ 0
 
 -- different columns of odd weight within the check places, none a single bit
