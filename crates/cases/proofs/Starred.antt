@@ -17,6 +17,9 @@ use Rattle.linear.specs.declared.answer.Answer.the-variants.{Done, Refused}
 use Rattle.cases.specs.Matrices.{seven, five, four}
 use Rattle.decoder.specs.Decoded.{wordOf, countOf}
 use Rattle.decoder.specs.declared.outcomes.Reading.the-variants.{Nearest}
+use Rattle.hsiao.specs.Table.{columns}
+use Rattle.hsiao.specs.Outcome.{outcomeOf, wordIn, countIn}
+use Rattle.hsiao.specs.declared.outcomes.Outcome.the-variants.{Mended, Far}
 
 -- the (7,4) matrix is accepted
 seven-accepted : matrixAnswer 7 4 seven ≡ Done
@@ -80,3 +83,32 @@ dependent-number = refl
 
 dependent-value : valueOf (Dependent 2) ≡ 2
 dependent-value = refl
+
+-- (72,64): data 1 has check 07; data of 64 ones has check 00
+one-encoded : encode columns 1 ≡ 0x07
+unfolding columns
+one-encoded = refl
+
+ones-encoded : encode columns 0xFFFFFFFFFFFFFFFF ≡ 0x00
+unfolding columns
+ones-encoded = refl
+
+-- data 3, check 00 is far; data 0, check 2F is far; data 1, check 00 mends to 0
+three-far : outcomeOf (record { check = 0x00; «data» = 3 }) ≡ Far
+unfolding columns
+three-far = refl
+
+no-column-far : outcomeOf (record { check = 0x2F; «data» = 0 }) ≡ Far
+unfolding columns
+no-column-far = refl
+
+one-mended : outcomeOf (record { check = 0x00; «data» = 1 }) ≡ Mended (record { check = 0x00; «data» = 0 }) 1
+unfolding columns
+one-mended = refl
+
+-- a far word is answered unchanged with count 255
+far-word : wordIn Far (record { check = 0x2F; «data» = 0 }) ≡ record { check = 0x2F; «data» = 0 }
+far-word = refl
+
+far-count : countIn Far ≡ 255
+far-count = refl
