@@ -34,13 +34,13 @@ split-discrete a b = go (ℕ-discrete (a .check) (b .check)) (ℕ-discrete (a .i
     go (no k) d = no (λ e. k (ap (λ (w : SplitWord). w .check) e))
 
 pub split-distance-sym : (a b : SplitWord) → splitDistance a b ≡ splitDistance b a
-split-distance-sym a b = ap₂ _+_ (distance-sym (a .check) (b .check)) (distance-sym (a .info) (b .info))
+split-distance-sym a b = omega (arith, distance-sym (a .check) (b .check), distance-sym (a .info) (b .info))
 
 pub split-distance-tri : (a b c : SplitWord) → splitDistance a c ≤ splitDistance a b + splitDistance b c
 split-distance-tri a b c = omega (arith, distance-tri (a .check) (b .check) (c .check), distance-tri (a .info) (b .info) (c .info))
 
 pub split-distance-self : (a : SplitWord) → splitDistance a a ≡ 0
-split-distance-self a = ap₂ _+_ (distance-self (a .check)) (distance-self (a .info))
+split-distance-self a = omega (arith, distance-self (a .check), distance-self (a .info))
 
 -- the columns of the check places that a word selects add up to that word
 pub units-sum : (c x : ℕ) → x < 2 ^ c → encode (units c) x ≡ x
@@ -159,7 +159,7 @@ module _ (c : ℕ) (cols : List ℕ) (K : OddColumns c cols) where
       let x = a .info in
       let y = b .info in
       let e : a .check ⊕ b .check ≡ encode cols (x ⊕ y) = ap₂ _⊕_ (check-is c cols a A) (check-is c cols b B) ∙ sym (encode-xor cols x y) in
-      rw e (heavy (x ⊕ y) (xor-lt (length cols) x y (A .places .info) (B .places .info)) (λ z. ne (same (xor-eq x y z))))
+      omega (arith, ap weight e, heavy (x ⊕ y) (xor-lt (length cols) x y (A .places .info) (B .places .info)) (λ z. ne (same (xor-eq x y z))))
     where
       same : a .info ≡ b .info → a ≡ b
       same d = split-same (check-is c cols a A ∙ ap (encode cols) d ∙ sym (check-is c cols b B)) d

@@ -79,10 +79,11 @@ const COLUMNS: [u8; 64] = [
 pub(crate) fn numbered(s: u8) -> u8
     ensures { λ r. ⌜ r ≡ pick (ltb (columnPlace columns s) 64) (suc (columnPlace columns s)) 0 ⌝ }
 {
+    let table = COLUMNS;
     let mut n: u8 = 0;
     let mut i: u8 = 0;
     while i < 64 {
-        if COLUMNS[i as usize] == s {
+        if table[i as usize] == s {
             n += i + 1;
         }
         i += 1;

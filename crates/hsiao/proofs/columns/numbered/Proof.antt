@@ -21,10 +21,10 @@ abbrev hit : ℕ → ℕ → Bool
 hit s j = eqb (getD columns j 0) s
 
 abbrev Inv-loop : tie.InvT-loop
-Inv-loop s n₀ i₀ n i = (i ≤ 64) × (n ≡ numberBelow (hit s) i)
+Inv-loop s table n₀ i₀ n i = (i ≤ 64) × (n ≡ numberBelow (hit s) i)
 
 abbrev μ-loop : tie.MeasureT-loop
-μ-loop s n₀ i₀ n i = 64 - i
+μ-loop s table n₀ i₀ n i = 64 - i
 
 -- the columns are different: where column i is s, none before it is
 none-before : (s i : ℕ) → i < 64 → getD columns i 0 ≡ s → (j : ℕ) → j < i → hit s j ≡ false
