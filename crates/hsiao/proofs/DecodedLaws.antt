@@ -19,7 +19,7 @@ use Rattle.coding.proofs.CountLaws.{length-tabulate, getD-tabulate}
 use Rattle.coding.proofs.RadiusLaws.{radius-found}
 use Rattle.coding.proofs.ColumnLaws.{split-discrete, split-distance-sym, split-distance-tri, split-distance-self, four-apart, IsColumn, check-changed-distance, info-changed-distance, mend-check, mend-info, near-syndrome}
 use Rattle.hsiao.specs.Table.{split}
-use Rattle.hsiao.specs.Outcome.{withCheck, withData, outcomeBy, wordIn, countIn}
+use Rattle.hsiao.specs.Outcome.{withCheck, withData, outcomeAt, outcomeBy, wordIn, countIn}
 use Rattle.hsiao.specs.declared.word.Word.{Word}
 use Rattle.hsiao.specs.declared.outcomes.Outcome.{Outcome}
 use Rattle.hsiao.specs.declared.outcomes.Outcome.the-variants.{Clean, Mended, Far}
@@ -53,7 +53,7 @@ module _ (c : ℕ) (cols : List ℕ) (K : OddColumns c cols) (w : Word) (P : Spl
   one-away : (o : Outcome) → countIn o ≡ 1 → splitDistance (split w) (split (wordIn o w)) ≡ 1 → SplitCodeword c cols (split (wordIn o w)) → Found o
   one-away o e d C = inr ((λ z. absurd (omega (arith, e, z))), C, e ∙ sym d, omega (arith, d))
 
-  found : Found (outcomeBy c cols w (splitSyndrome c cols (split w)))
+  found : Found (outcomeBy c cols w)
   found = go (eqb s₀ 0) (ltb (columnPlace (units c) s₀) c) (ltb (columnPlace cols s₀) (length cols)) refl refl refl
     where
       s₀ : ℕ
@@ -90,19 +90,19 @@ module _ (c : ℕ) (cols : List ℕ) (K : OddColumns c cols) (w : Word) (P : Spl
           beyond b B (no l) = omega arith
 
   pub radius-one : RadiusRules SplitWord (SplitCodeword c cols) splitDistance 4 1 (split w)
-      (split (wordIn (outcomeBy c cols w (splitSyndrome c cols (split w))) w))
-      (countIn (outcomeBy c cols w (splitSyndrome c cols (split w)))) (countIn (outcomeBy c cols w (splitSyndrome c cols (split w))) ≡ 255)
+      (split (wordIn (outcomeBy c cols w) w))
+      (countIn (outcomeBy c cols w)) (countIn (outcomeBy c cols w) ≡ 255)
   radius-one =
       radius-found SplitWord split-discrete splitDistance split-distance-sym split-distance-tri (SplitCodeword c cols) 4 (four-apart c cols K)
-      1 (lit≤ tt) (split w) (split (wordIn (outcomeBy c cols w (splitSyndrome c cols (split w))) w))
-      (countIn (outcomeBy c cols w (splitSyndrome c cols (split w)))) (countIn (outcomeBy c cols w (splitSyndrome c cols (split w))) ≡ 255) found
+      1 (lit≤ tt) (split w) (split (wordIn (outcomeBy c cols w) w))
+      (countIn (outcomeBy c cols w)) (countIn (outcomeBy c cols w) ≡ 255) found
 
 -- the count tells the outcome
 module _ (c : ℕ) (cols : List ℕ) (w : Word) (s : ℕ) where
   abbrev Told : Outcome → Type 0
   Told o = ((countIn o ≡ 0) ↔ (o ≡ Clean w)) × ((countIn o ≡ 255) ↔ (o ≡ Far))
 
-  pub told : Told (outcomeBy c cols w s)
+  pub told : Told (outcomeAt c cols w s)
   told = go (eqb s 0) (ltb (columnPlace (units c) s) c) (ltb (columnPlace cols s) (length cols))
     where
       clash : (o : Outcome) (m n : ℕ) → countIn o ≡ m → (m ≡ n → ⊥) → (p : Outcome) → countIn p ≡ n → (countIn o ≡ n) ↔ (o ≡ p)

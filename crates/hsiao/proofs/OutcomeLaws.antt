@@ -14,7 +14,7 @@ use Rattle.coding.specs.Lists.{pick, both}
 use Rattle.coding.specs.Word.{_⊕_}
 use Rattle.coding.specs.Columns.{units, columnPlace}
 use Rattle.hsiao.specs.Table.{columns}
-use Rattle.hsiao.specs.Outcome.{withData, outcomeBy}
+use Rattle.hsiao.specs.Outcome.{withData, outcomeAt}
 use Rattle.hsiao.specs.declared.word.Word.{Word}
 use Rattle.hsiao.specs.declared.outcomes.Outcome.{Outcome}
 use Rattle.hsiao.specs.declared.outcomes.Outcome.the-variants.{Clean, Mended, Far}
@@ -72,13 +72,13 @@ module _ (s : ℕ) (h : s < 256) (ne : s ≢ 0) where
       go false t = refl
 
   -- a single bit: that check place is mended
-  pub outcome-check : (w : Word) → bitAnd s (s - 1) ≡ 0 → Mended (record { check = w .check ⊕ s; «data» = w .«data» }) 1 ≡ outcomeBy 8 columns w s
+  pub outcome-check : (w : Word) → bitAnd s (s - 1) ≡ 0 → Mended (record { check = w .check ⊕ s; «data» = w .«data» }) 1 ≡ outcomeAt 8 columns w s
   outcome-check w z =
       let (b, e) = unit-yes z in
       rw (ne-eqb s 0 ne, b) (ap (λ (x : ℕ). Mended (record { check = w .check ⊕ x; «data» = w .«data» }) 1) (sym e))
 
   module _ (w : Word) (n : ℕ) (k : bitAnd s (s - 1) ≢ 0) (is : n ≡ pick (ltb (columnPlace columns s) 64) (suc (columnPlace columns s)) 0) where
-    pub outcome-far : n ≡ 0 → Far ≡ outcomeBy 8 columns w s
+    pub outcome-far : n ≡ 0 → Far ≡ outcomeAt 8 columns w s
     unfolding columns
     outcome-far z = rw (ne-eqb s 0 ne, unit-no k, columns-length) (go (ltb (columnPlace columns s) 64) (sym is ∙ z))
       where
@@ -87,12 +87,12 @@ module _ (s : ℕ) (h : s < 256) (ne : s ≢ 0) where
         go false e = refl
 
     -- a column: that data place is mended
-    pub outcome-data : n ≢ 0 → (n - 1 < 64) × (Mended (withData w (n - 1)) 1 ≡ outcomeBy 8 columns w s)
+    pub outcome-data : n ≢ 0 → (n - 1 < 64) × (Mended (withData w (n - 1)) 1 ≡ outcomeAt 8 columns w s)
     unfolding columns
     outcome-data z = go (ltb (columnPlace columns s) 64) refl (is)
       where
         go : (b : Bool) → ltb (columnPlace columns s) 64 ≡ b → n ≡ pick b (suc (columnPlace columns s)) 0
-            → (n - 1 < 64) × (Mended (withData w (n - 1)) 1 ≡ outcomeBy 8 columns w s)
+            → (n - 1 < 64) × (Mended (withData w (n - 1)) 1 ≡ outcomeAt 8 columns w s)
         go false e f = absurd (z f)
         go true e f =
             let q : n - 1 ≡ columnPlace columns s = omega (arith, f) in

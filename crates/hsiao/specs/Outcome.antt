@@ -20,15 +20,18 @@ withData w i = record { check = w .check; «data» = w .«data» ⊕ 2 ^ i }
 
 -- the received word w by its syndrome s, for c check places and these data columns: 0 is clean, the column of a place mends that place,
 -- any other is far
-abbrev pub outcomeBy : ℕ → List ℕ → Word → ℕ → Outcome
-outcomeBy c cols w s =
+abbrev pub outcomeAt : ℕ → List ℕ → Word → ℕ → Outcome
+outcomeAt c cols w s =
     pick (eqb s 0) (Clean w)
     (pick (ltb (columnPlace (units c) s) c) (Mended (withCheck w (columnPlace (units c) s)) 1)
     (pick (ltb (columnPlace cols s) (length cols)) (Mended (withData w (columnPlace cols s)) 1) Far))
 
+abbrev pub outcomeBy : ℕ → List ℕ → Word → Outcome
+outcomeBy c cols w = outcomeAt c cols w (splitSyndrome c cols (split w))
+
 -- a word of the (72,64) code
 abbrev pub outcomeOf : Word → Outcome
-outcomeOf w = outcomeBy 8 columns w (splitSyndrome 8 columns (split w))
+outcomeOf w = outcomeBy 8 columns w
 
 -- the word answered: a far word stays as received
 abbrev pub wordIn : Outcome → Word → Word

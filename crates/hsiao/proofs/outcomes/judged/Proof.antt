@@ -9,7 +9,7 @@ use Rattle.coding.specs.Word.{_⊕_}
 use Rattle.coding.specs.Columns.{SplitPlaces, columnPlace}
 use Rattle.coding.proofs.MachineLaws.{shl-one}
 use Rattle.hsiao.specs.Table.{columns, split, syndromeOf}
-use Rattle.hsiao.specs.Outcome.{outcomeBy, outcomeOf}
+use Rattle.hsiao.specs.Outcome.{outcomeAt, outcomeOf}
 use Rattle.hsiao.specs.declared.outcomes.Outcome.{Outcome}
 use Rattle.hsiao.specs.declared.outcomes.Outcome.the-variants.{Mended}
 use Rattle.hsiao.proofs.OutcomeLaws.{outcome-check, outcome-far, outcome-data}
@@ -18,9 +18,9 @@ use Rattle.hsiao.proofs.outcomes.judged.Statement.{statement}
 use Rattle.hsiao.proofs.outcomes.judged.Tie as tie
 
 -- what is ensured follows from the outcome by the syndrome found
-by-syndrome : (c : tie.After-syndrome) (o : Outcome) → o ≡ outcomeBy 8 columns (c .before .args .w) (c .syndrome .result)
+by-syndrome : (c : tie.After-syndrome) (o : Outcome) → o ≡ outcomeAt 8 columns (c .before .args .w) (c .syndrome .result)
     → (o ≡ outcomeOf (c .before .args .w)) × SplitPlaces 8 columns (split (c .before .args .w))
-by-syndrome c o e = (e ∙ ap (outcomeBy 8 columns (c .before .args .w)) (c .syndrome .ensures .sum), c .syndrome .ensures .places)
+by-syndrome c o e = (e ∙ ap (outcomeAt 8 columns (c .before .args .w)) (c .syndrome .ensures .sum), c .syndrome .ensures .places)
 
 is-byte : (c : tie.After-syndrome) → c .syndrome .result < 256
 is-byte c = omega (arith, c .syndrome .ok)
@@ -63,7 +63,7 @@ found : (c : tie.Else3)
     → let n = c .before .numbered .result in
     let s = c .before .before .before .before in
     (n - 1 < 64) × (Mended (record { check = s .before .args .w .check; «data» = s .before .args .w .«data» ⊕ 2 ^ (n - 1) }) 1
-    ≡ outcomeBy 8 columns (s .before .args .w) (s .syndrome .result))
+    ≡ outcomeAt 8 columns (s .before .args .w) (s .syndrome .result))
 found c =
     let n = c .before in
     let i = n .before .before in
