@@ -9,7 +9,7 @@ use native.Mathlib.Decide.{ℕ-discrete}
 use native.Mathlib.Omega.{arith}
 use lib.ListN.{length, getD}
 use lib.Pow.{pow-pos, pow-lt}
-use lib.Bits.{xor-lt, xor-self, xor-zero-r, xor-zero-l, xor-comm}
+use lib.Bits.{xor-lt, xor-self, xor-zero-r, xor-comm}
 use lib.Count.{ones-step, trailingZeros}
 use Rattle.coding.specs.Word.{_⊕_, bit, weight, distance}
 use Rattle.coding.specs.Matrix.{sel, encode, Inside}
@@ -41,6 +41,9 @@ split-distance-tri a b c = omega (arith, distance-tri (a .check) (b .check) (c .
 
 pub split-distance-self : (a : SplitWord) → splitDistance a a ≡ 0
 split-distance-self a = omega (arith, distance-self (a .check), distance-self (a .info))
+
+pub split-distance-zero : (a b : SplitWord) → splitDistance a b ≡ 0 → a ≡ b
+split-distance-zero a b e = split-same (distance-zero (a .check) (b .check) (omega arith)) (distance-zero (a .info) (b .info) (omega arith))
 
 -- the columns of the check places that a word selects add up to that word
 pub units-sum : (c x : ℕ) → x < 2 ^ c → encode (units c) x ≡ x

@@ -1,12 +1,12 @@
 -- The sum of columns by diagonals: it is linear in the data, and at each single data place it is that place's column. Assumes nothing.
 use mathlib.Core.Path.{_≡_, refl, sym, ap, ap₂, _∙_}
 use mathlib.Core.List.{List, [], _∷_}
-use Prim.Native.Nat.{ℕ, zero, suc, _+_, _-_, _*_, _/_, _%_, _^_, _≤_, _<_}
+use Prim.Native.Nat.{ℕ, zero, suc, _-_, _*_, _/_, _%_, _^_, _≤_, _<_}
 use native.Mathlib.Nat.{add-zero}
-use native.Mathlib.Numerals.{add-one}
 use native.Mathlib.Omega.{arith}
 use lib.ListN.{length, getD, drop}
 use lib.Seq.{drop-cons}
+use lib.Pow.{pow-pos}
 use lib.Bits.{bitAnd, xor-block, xor-mod, xor-shr}
 use Rattle.coding.specs.Lists.{tabulate}
 use Rattle.coding.specs.Word.{_⊕_}
@@ -46,7 +46,7 @@ turned-step ms (suc k) x h l = let e : suc k - 1 ≡ k = omega arith in rw e (ap
 
 shl-xor : (a b k w : ℕ) → ((a ⊕ b) * 2 ^ k) % 2 ^ w ≡ (a * 2 ^ k) % 2 ^ w ⊕ (b * 2 ^ k) % 2 ^ w
 shl-xor a b k w =
-    let e : (a * 2 ^ k) ⊕ (b * 2 ^ k) ≡ (a ⊕ b) * 2 ^ k = simp add-zero at (xor-block k a b 0 0 (lib.Pow.pow-pos k) (lib.Pow.pow-pos k)) in
+    let e : (a * 2 ^ k) ⊕ (b * 2 ^ k) ≡ (a ⊕ b) * 2 ^ k = simp add-zero at (xor-block k a b 0 0 (pow-pos k) (pow-pos k)) in
     ap (λ (x : ℕ). x % 2 ^ w) (sym e) ∙ xor-mod (a * 2 ^ k) (b * 2 ^ k) w
 
 turn-xor : (a b : ℕ) → turn (a ⊕ b) ≡ turn a ⊕ turn b

@@ -7,7 +7,6 @@ use Prim.Native.Nat.{ℕ, zero, suc, _-_, _^_, _<_}
 use native.Mathlib.Decide.{ℕ-discrete}
 use native.Mathlib.Omega.{arith}
 use lib.Dec.{T, eqb, ltb, eqb→eq}
-use lib.ListN.{length}
 use lib.Bits.{bitAnd}
 use borrow.Author.Tests.{eq-eqb, ne-eqb, ltb-true}
 use Rattle.coding.specs.Lists.{pick, both}
@@ -16,8 +15,7 @@ use Rattle.coding.specs.Columns.{units, columnPlace}
 use Rattle.hsiao.specs.Table.{columns}
 use Rattle.hsiao.specs.Outcome.{withData, outcomeAt}
 use Rattle.hsiao.specs.declared.word.Word.{Word}
-use Rattle.hsiao.specs.declared.outcomes.Outcome.{Outcome}
-use Rattle.hsiao.specs.declared.outcomes.Outcome.the-variants.{Clean, Mended, Far}
+use Rattle.hsiao.specs.declared.outcomes.Outcome.the-variants.{Mended, Far}
 use Rattle.hsiao.proofs.TableLaws.{columns-length}
 
 -- a test of every number below m

@@ -1,7 +1,6 @@
 -- 01, Decode of the (72,64) code, and 00's demand 3 at r = 1, dmin = 4.
 use mathlib.Core.Path.{_≡_}
 use mathlib.Core.Logic.{_↔_}
-use Prim.Native.Nat.{ℕ}
 use Rattle.coding.specs.Radius.{RadiusRules}
 use Rattle.coding.specs.Columns.{SplitWord, splitDistance, SplitCodeword, SplitMinimumDistance}
 use Rattle.hsiao.specs.Table.{columns, split}

@@ -1,8 +1,7 @@
 -- `hsiao::encode::encode`: with the sum of its columns the data is a codeword. Assumes nothing.
-use mathlib.Core.Path.{_≡_, sym, ap, _∙_}
-use Prim.Native.Nat.{ℕ, _^_, _<_}
+use mathlib.Core.Path.{sym, _∙_}
+use Prim.Native.Nat.{_^_, _<_}
 use lib.ListN.{length}
-use Rattle.coding.specs.Columns.{SplitCodeword}
 use Rattle.coding.proofs.ColumnLaws.{check-is, encoded-codeword}
 use Rattle.hsiao.specs.Table.{columns}
 use Rattle.hsiao.proofs.TableLaws.{columns-odd, columns-length}

@@ -1,14 +1,12 @@
 -- `hsiao::outcomes::judged`: the tests of the syndrome in turn. Assumes nothing.
-use mathlib.Core.Path.{_≡_, refl, sym, ap, _∙_}
-use Prim.Native.Nat.{ℕ, suc, _^_, _-_, _<_}
+use mathlib.Core.Path.{_≡_, ap, _∙_}
+use Prim.Native.Nat.{ℕ, _^_, _-_, _<_}
 use native.Mathlib.Omega.{arith}
-use lib.Dec.{ltb}
 use borrow.Author.Tests.{eq-eqb}
-use Rattle.coding.specs.Lists.{pick}
 use Rattle.coding.specs.Word.{_⊕_}
-use Rattle.coding.specs.Columns.{SplitPlaces, columnPlace}
+use Rattle.coding.specs.Columns.{SplitPlaces}
 use Rattle.coding.proofs.MachineLaws.{shl-one}
-use Rattle.hsiao.specs.Table.{columns, split, syndromeOf}
+use Rattle.hsiao.specs.Table.{columns, split}
 use Rattle.hsiao.specs.Outcome.{outcomeAt, outcomeOf}
 use Rattle.hsiao.specs.declared.outcomes.Outcome.{Outcome}
 use Rattle.hsiao.specs.declared.outcomes.Outcome.the-variants.{Mended}

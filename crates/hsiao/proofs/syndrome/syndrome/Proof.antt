@@ -1,8 +1,6 @@
 -- `hsiao::syndrome::syndrome`: the columns of the check places that hold a 1 add up to the check byte. Assumes nothing.
 use mathlib.Core.Path.{_≡_, sym, ap₂, _∙_}
 use Prim.Native.Nat.{_^_, _<_}
-use native.Mathlib.Omega.{arith}
-use lib.ListN.{length}
 use Rattle.coding.specs.Word.{_⊕_}
 use Rattle.coding.specs.Columns.{SplitPlaces}
 use Rattle.coding.proofs.ColumnLaws.{units-sum}
