@@ -1,7 +1,7 @@
 -- The sum of columns by diagonals: it is linear in the data, and at each single data place it is that place's column. Assumes nothing.
 use mathlib.Core.Path.{_≡_, refl, sym, ap, ap₂, _∙_}
 use mathlib.Core.List.{List, [], _∷_}
-use Prim.Native.Nat.{ℕ, zero, suc, _-_, _*_, _/_, _%_, _^_, _≤_, _<_}
+use Prim.Native.Nat.{ℕ, zero, suc, _+_, _-_, _*_, _/_, _%_, _^_, _≤_, _<_}
 use native.Mathlib.Nat.{add-zero}
 use native.Mathlib.Omega.{arith}
 use lib.ListN.{length, getD, drop}
@@ -9,17 +9,21 @@ use lib.Seq.{drop-cons}
 use lib.Pow.{pow-pos}
 use lib.Bits.{bitAnd, xor-block, xor-mod, xor-shr}
 use Rattle.coding.specs.Lists.{tabulate}
-use Rattle.coding.specs.Word.{_⊕_}
+use Rattle.coding.specs.Word.{_⊕_, bit}
 use Rattle.coding.specs.Matrix.{encode}
 use Rattle.coding.proofs.WordLaws.{xor-four}
 use Rattle.coding.proofs.WeightLaws.{and-xor}
 use Rattle.coding.proofs.LinearLaws.{linear-columns}
 use Rattle.hsiao.specs.Table.{columns}
 
--- the diagonals of the code
-abbrev pub diagonals : List ℕ
-diagonals =
-    0xFFC0B080504F201F ∷ 0xFF6048402BA81385 ∷ 0xFF3025E7D61C0A03 ∷ 0xFF1BF3140966E760 ∷ 0xFF0E08BE04D381D0 ∷ 0x0005046B023158B0 ∷ 0x00FE8219BD00B44C ∷ 0x00815F00E0804C2A ∷ []
+-- the word whose place i is the digit (i + k) % 8 of column i, where the first of the columns stands at place i
+abbrev diagonal : ℕ → ℕ → List ℕ → ℕ
+diagonal k i [] = 0
+diagonal k i (x ∷ cols) = bit x ((i + k) % 8) + 2 * diagonal k (suc i) cols
+
+-- the diagonals of the table
+unfoldable pub diagonals : List ℕ
+diagonals = tabulate (λ k. diagonal k 0 columns) 8
 
 -- one place on in 64 places, the last becoming the first
 abbrev pub turn : ℕ → ℕ
@@ -70,11 +74,20 @@ byte-xor a b =
 
 -- one computed test: the column of every place
 each-place : tabulate (λ p. byteSum (turnedSum diagonals (2 ^ p))) 64 ≡ columns
-unfolding columns
+unfolding columns diagonals
 each-place = refl
+
+-- no place selects nothing
+none : byteSum (turnedSum diagonals 0) ≡ 0
+unfolding columns diagonals
+none = refl
+
+pub diagonals-length : length diagonals ≡ 8
+unfolding columns diagonals
+diagonals-length = refl
 
 pub diagonal-sum : (x : ℕ) → x < 2 ^ 64 → byteSum (turnedSum diagonals x) ≡ encode columns x
 diagonal-sum x h =
-    sym (linear-columns (λ y. byteSum (turnedSum diagonals y)) refl
+    sym (linear-columns (λ y. byteSum (turnedSum diagonals y)) none
     (λ a b. ap byteSum (turned-xor diagonals a b) ∙ byte-xor (turnedSum diagonals a) (turnedSum diagonals b)) 64 x h)
     ∙ ap (λ (l : List ℕ). encode l x) each-place

@@ -5,7 +5,8 @@ use native.Mathlib.Omega.{arith}
 use lib.ListN.{getD, drop}
 use lib.Bits.{bitAnd, mask-lt}
 use Rattle.coding.specs.Word.{_⊕_}
-use Rattle.hsiao.proofs.DiagonalLaws.{diagonals, turn, turnedSum, turned-step, onto, byteSum, diagonal-sum}
+use Rattle.hsiao.specs.Table.{columns}
+use Rattle.hsiao.proofs.DiagonalLaws.{diagonals, diagonals-length, turn, turnedSum, turned-step, onto, byteSum, diagonal-sum}
 use borrow.Author.Needs.{needs}
 use Rattle.hsiao.proofs.encode.column_sum.Statement.{statement}
 use Rattle.hsiao.proofs.encode.column_sum.Tie as tie
@@ -17,6 +18,7 @@ abbrev μ-loop : tie.MeasureT-loop
 μ-loop bits s₀ k₀ s k = k
 
 loop-holds : tie.Need-loop-holds Inv-loop μ-loop
+unfolding columns diagonals
 loop-holds c = (search needs, refl)
 
 sub-k : tie.Need-sub-k Inv-loop μ-loop
@@ -32,11 +34,12 @@ loop-less : tie.Need-loop-less Inv-loop μ-loop
 loop-less c = search needs
 
 loop-again : tie.Need-loop-again Inv-loop μ-loop
+unfolding columns diagonals
 loop-again c =
     let l = c .before .loop in
     let x = c .before .before .args .bits in
     let e : turnedSum (drop (l .k - 1) diagonals) x ≡ turn (turnedSum (drop (l .k) diagonals) x) ⊕ bitAnd x (getD diagonals (l .k - 1) 0) =
-    turned-step diagonals (l .k) x (c .loop-test .taken) (l .inv .0) in
+    turned-step diagonals (l .k) x (c .loop-test .taken) (rw diagonals-length (l .inv .0)) in
     (omega (arith, l .inv .0), ap (λ (s : ℕ). turn s ⊕ bitAnd x (getD diagonals (l .k - 1) 0)) (l .inv .1) ∙ sym e)
 
 cast-result : tie.Need-cast-result Inv-loop μ-loop
