@@ -1,7 +1,7 @@
 -- 01, "Worked words": the starred cases, in 01's order, each by computation on the definitions that the contracts cite.
 -- A word is written as a number, place 0 lowest: 01's 1101000 is 0b0001011. Assumes nothing.
 use mathlib.Core.Path.{_≡_, refl, sym, ap, _∙_}
-use mathlib.Core.List.{List, [], _∷_}
+use mathlib.Core.List.{[], _∷_}
 use Prim.Native.Nat.{ℕ}
 use lib.Dec.{lit<, lit≤}
 use lib.Count.{ones, onesIn, trailingZeros}
@@ -11,6 +11,7 @@ use Rattle.coding.specs.Reduced.{reducedRows}
 use Rattle.coding.specs.Weight.{dmin, weightCount, weightCounts}
 use Rattle.coding.specs.Lists.{tabulate}
 use Rattle.coding.specs.Radius.{RadiusRules}
+use Rattle.coding.proofs.WeightLaws.{weight-in}
 use Rattle.coding.specs.Leader.{leaderOf}
 use Rattle.linear.specs.Refusal.{numberOf, valueOf}
 use Rattle.linear.specs.Accepted.{shapeAnswer, matrixAnswer}
@@ -21,10 +22,12 @@ use Rattle.decoder.specs.Decoded.{wordOf, countOf}
 use Rattle.decoder.specs.Outcome.{wordIn, countIn}
 use Rattle.decoder.specs.declared.outcomes.Reading.the-variants.{Nearest}
 use Rattle.golay_code.specs.Golay.{golayChecks, golayRows}
-use Rattle.golay_code.proofs.WalkLaws.{ones-in}
 use Rattle.golay_code.proofs.GolayLaws.{golay-accepted}
 use Rattle.golay.specs.Decoded.{decodedTag}
 use Rattle.golay.proofs.AnswerLaws.{golay-rules}
+use Rattle.hsiao.specs.Table.{columns}
+use Rattle.hsiao.specs.Outcome as hsiao
+use Rattle.hsiao.specs.declared.outcomes.Outcome.the-variants.{Mended, Far}
 
 -- the (7,4) matrix is accepted
 seven-accepted : matrixAnswer 7 4 seven ≡ Done
@@ -103,7 +106,7 @@ golayCodeword = 0b000000000011_011011001001
 
 golay-three : distance golayReceived golayCodeword ≡ 3
 unfolding golayReceived golayCodeword onesIn
-golay-three = sym (ones-in 24 (golayReceived ⊕ golayCodeword) (lit< tt))
+golay-three = sym (weight-in 24 (golayReceived ⊕ golayCodeword) (lit< tt))
 
 golay-codeword : Codeword golayRows golayCodeword
 unfolding golayCodeword
@@ -121,3 +124,32 @@ golay-mended = golay-back .1
 
 golay-mended-count : countIn (decodedTag golayReceived) ≡ 3
 golay-mended-count = golay-rule .counted (golay-back .0) ∙ ap (distance golayReceived) golay-mended ∙ golay-three
+
+-- (72,64): data 1 has check 07; data of 64 ones has check 00
+one-encoded : encode columns 1 ≡ 0x07
+unfolding columns
+one-encoded = refl
+
+ones-encoded : encode columns 0xFFFFFFFFFFFFFFFF ≡ 0x00
+unfolding columns
+ones-encoded = refl
+
+-- data 3, check 00 is far; data 0, check 2F is far; data 1, check 00 mends to 0
+three-far : hsiao.outcomeOf (record { check = 0x00; «data» = 3 }) ≡ Far
+unfolding columns
+three-far = refl
+
+no-column-far : hsiao.outcomeOf (record { check = 0x2F; «data» = 0 }) ≡ Far
+unfolding columns
+no-column-far = refl
+
+one-mended : hsiao.outcomeOf (record { check = 0x00; «data» = 1 }) ≡ Mended (record { check = 0x00; «data» = 0 }) 1
+unfolding columns
+one-mended = refl
+
+-- a far word is answered unchanged with count 255
+far-word : hsiao.wordIn Far (record { check = 0x2F; «data» = 0 }) ≡ record { check = 0x2F; «data» = 0 }
+far-word = refl
+
+far-count : hsiao.countIn Far ≡ 255
+far-count = refl

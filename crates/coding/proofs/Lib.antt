@@ -26,3 +26,6 @@ pub mod DecodeLaws
 pub mod BuildLaws
 pub mod LinearLaws
 pub mod SystematicLaws
+pub mod TestLaws
+pub mod ColumnLaws
+pub mod ColumnTestLaws

@@ -4,7 +4,6 @@ use mathlib.Core.List.{List, [], _∷_, map}
 use Prim.Native.Nat.{ℕ, zero, suc, _+_, _*_, _/_, _%_, _^_, _<_}
 use native.Mathlib.Nat.{pow-suc, mul-comm}
 use native.Mathlib.Omega.{arith}
-use lib.Bits.{xor-zero-r}
 use Rattle.coding.specs.Lists.{tabulate}
 use Rattle.coding.specs.Word.{_⊕_}
 use Rattle.coding.specs.Matrix.{sel, encode}

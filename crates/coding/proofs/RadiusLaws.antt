@@ -1,9 +1,9 @@
--- Laws of the radius rules, over any words, distance and set of codewords that are D apart: demand 3 follows from a nearest codeword.
+-- Laws of the radius rules, over any words, distance and set of codewords that are D apart: demand 3 follows from a
+-- codeword found within the radius, or none there, and so from a nearest codeword.
 -- Assumes nothing.
 use mathlib.Core.Path.{_≡_, sym, ap, _∙_}
-use mathlib.Core.Logic.{_≢_, _↔_}
+use mathlib.Core.Logic.{_≢_, _↔_, _⊎_, inl, inr}
 use Prim.Native.Nat.{ℕ, _+_, _*_, _≤_, _<_}
-use native.Mathlib.Nat.{le-trans}
 use native.Mathlib.Decide.{decLe}
 use native.Mathlib.Omega.{arith}
 use Rattle.coding.specs.Radius.{NearestRule, RadiusRules}
@@ -26,31 +26,36 @@ module _ (W : Type 0) (same : Discrete W) (δ : W → W → ℕ) (sy : (a b : W)
       go (yes e) = rw e at l
       go (no ne) = omega (arith, apart a b ca cb ne, tri a w b, sy a w)
 
-  -- demand 3 within radius r: c is a nearest codeword, and the answer is far exactly when c is more than r away
+  -- demand 3 within radius r, where the answer d is a codeword within r, or far and no codeword is within r
+  pub radius-found : (r : ℕ) → 2 * r + 1 ≤ D → (w d : W) (count : ℕ) (Far : Type 0)
+      → (Far × ((b : W) → C b → r < δ w b)) ⊎ ((Far → ⊥) × C d × (count ≡ δ w d) × (δ w d ≤ r)) → RadiusRules W C δ D r w d count Far
+  radius-found r h w d count Far (inl (f, none)) = record {
+    far-exactly = (λ _. none, λ _. f);
+    codeword = λ k. absurd (k f);
+    counted = λ k. absurd (k f);
+    within = λ k. absurd (k f);
+    only = λ b cb l. absurd (omega (arith, none b cb));
+    sent-back = λ b cb l. absurd (omega (arith, none b cb));
+    sent-far = λ b cb l g. f;
+  }
+  radius-found r h w d count Far (inr (k, cd, e, l)) = record {
+    far-exactly = (λ f. absurd (k f), λ none. absurd (omega (arith, none d cd)));
+    codeword = λ _. cd;
+    counted = λ _. e;
+    within = λ _. omega arith;
+    only = λ b cb m. one-within r w b d h cb cd m l;
+    sent-back = λ b cb m. (k, one-within r w d b h cd cb l m);
+    sent-far = λ b cb m g. absurd (omega (arith, far-beyond r w b d cb cd m g));
+  }
+
+  -- the same where c is a nearest codeword, and the answer is far exactly when c is more than r away
   pub radius-rules : (r : ℕ) → 2 * r + 1 ≤ D → (w c : W) → NearestRule W C δ w c (δ w c) → (d : W) (count : ℕ) (Far : Type 0)
       → (Far ↔ (r < δ w c)) → ((Far → ⊥) → (d ≡ c) × (count ≡ δ w c)) → RadiusRules W C δ D r w d count Far
-  radius-rules r h w c N d count Far is not-far = record {
-    far-exactly = (λ f b cb. omega (arith, is .0 f, N .nearest b cb), λ f. is .1 (f c (N .codeword)));
-    codeword = λ k. rw (not-far k .0) (N .codeword);
-    counted = λ k. not-far k .1 ∙ sym-distance k;
-    within = λ k. close k;
-    only = λ b cb l. one-within r w b c h cb (N .codeword) l (near b cb l) ∙ sym (not-far (no-far b cb l) .0);
-    sent-back = λ b cb l. (no-far b cb l, not-far (no-far b cb l) .0 ∙ one-within r w c b h (N .codeword) cb (near b cb l) l);
-    sent-far = λ b cb l g. is .1 (far-beyond r w b c cb (N .codeword) l g);
-  }
+  radius-rules r h w c N d count Far is not-far = radius-found r h w d count Far (go (decLe (δ w c) r))
     where
-      near : (b : W) → C b → δ w b ≤ r → δ w c ≤ r
-      near b cb l = le-trans (N .nearest b cb) l
-
-      no-far : (b : W) → C b → δ w b ≤ r → Far → ⊥
-      no-far b cb l f = omega (arith, is .0 f, near b cb l)
-
-      sym-distance : (k : Far → ⊥) → δ w c ≡ δ w d
-      sym-distance k = ap (δ w) (sym (not-far k .0))
-
-      close : (Far → ⊥) → count ≤ r
-      close k = go (decLe (δ w c) r)
-        where
-          go : Dec (δ w c ≤ r) → count ≤ r
-          go (yes l) = rw (not-far k .1) l
-          go (no l) = absurd (k (is .1 (omega arith)))
+      go : Dec (δ w c ≤ r) → (Far × ((b : W) → C b → r < δ w b)) ⊎ ((Far → ⊥) × C d × (count ≡ δ w d) × (δ w d ≤ r))
+      go (no l) = inl (is .1 (omega arith), λ b cb. omega (arith, N .nearest b cb))
+      go (yes l) =
+          let k : Far → ⊥ = λ f. absurd (omega (arith, is .0 f)) in
+          let e : d ≡ c = not-far k .0 in
+          inr (k, rw e (N .codeword), not-far k .1 ∙ ap (δ w) (sym e), rw e l)

@@ -6,9 +6,9 @@ use mathlib.Core.List.{List, [], _∷_}
 use Prim.Native.Nat.{ℕ, zero, suc, _+_, _*_, _/_, _%_, _^_, _≤_, _<_, suc-le-suc}
 use native.Mathlib.Nat.{pow-suc, mul-comm, one-mul, zero-mul, mul-assoc, add-mul, div-add-mod', suc-mul, mul-le-mul-right, lt-of-lt-of-le, zero-div}
 use native.Mathlib.Omega.{arith}
-use lib.ListN.{length, getD}
+use lib.ListN.{length}
 use lib.Pow.{pow-pos, pow-mono, pow-lt, pow-add, shr-lt, split, high, low}
-use lib.Bits.{xor-zero-l, xor-zero-r, xor-comm, xor-self, xor-shifted, xor-shr, xor-mod}
+use lib.Bits.{xor-comm, xor-self, xor-shifted, xor-shr, xor-mod}
 use Rattle.coding.specs.Word.{_⊕_}
 use Rattle.coding.specs.Matrix.{sel, encode, Codeword, IsMessage, Inside, Independent}
 use Rattle.coding.specs.Systematic.{systematic, systematicSyndrome}

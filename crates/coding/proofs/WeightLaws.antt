@@ -2,12 +2,13 @@
 -- Assumes nothing.
 use mathlib.Core.Path.{_≡_, refl, sym, ap, ap₂, _∙_}
 use Prim.Native.Nat.{ℕ, zero, suc, _+_, _*_, _/_, _%_, _^_, _≤_, _<_, min}
+use native.Mathlib.Nat.{pow-suc}
 use native.Mathlib.Omega.{arith}
 use lib.Arith.{bin-ind}
 use lib.Bits.{bitAnd, and-comm, and-zero-r, xor-comm, xor-self}
-use lib.Count.{ones, ones-step}
+use lib.Count.{ones, onesIn, ones-step}
 use Rattle.coding.specs.Word.{_⊕_, bit, weight, distance, parity}
-use Rattle.coding.proofs.WordLaws.{halves-eq, xor-half, xor-odd, and-half, and-odd, xor-eq, xor-assoc, xor-cancel, xor-cancel-r, bit-half, pow-half, pow-even}
+use Rattle.coding.proofs.WordLaws.{halves-eq, xor-half, xor-odd, and-half, and-odd, xor-eq, xor-assoc, xor-cancel, xor-cancel-r, bit-half, pow-half, pow-even, half-lt}
 
 pub weight-zero : weight 0 ≡ 0
 unfolding ones
@@ -15,6 +16,12 @@ weight-zero = refl
 
 digit-sum : (x y a b : ℕ) → x % 2 ≡ (a + b) % 2 → y % 2 ≡ min (a % 2) (b % 2) → x % 2 + 2 * (y % 2) ≡ a % 2 + b % 2
 digit-sum x y a b h k = omega arith
+
+-- the weight of a word of k places, in k steps: the form in which a weight is computed
+pub weight-in : (k w : ℕ) → w < 2 ^ k → onesIn k w ≡ weight w
+unfolding onesIn
+weight-in zero w h = let e : w ≡ 0 = omega arith in rw e (sym weight-zero)
+weight-in (suc k) w h = ap (λ (x : ℕ). w % 2 + x) (weight-in k (w / 2) (half-lt k h)) ∙ sym (ones-step w)
 
 -- the weights of two words, by that of their sum and that of what they share
 pub weight-xor-and : (a b : ℕ) → weight (a ⊕ b) + 2 * weight (bitAnd a b) ≡ weight a + weight b
@@ -109,3 +116,16 @@ weight-pow (suc q) = omega (arith, rw (pow-half q) at (ones-step (2 ^ suc q)), p
 pub weight-less : (w q : ℕ) → bit w q ≡ 1 → suc (weight (w ⊕ 2 ^ q)) ≡ weight w
 unfolding parity
 weight-less w q e = omega (arith, weight-xor-and w (2 ^ q), weight-and-le w (2 ^ q), weight-pow q, parity-pow w q)
+
+-- a word of weight 1 is a single place
+pub weight-one : (m y : ℕ) → y < 2 ^ m → weight y ≡ 1 → (i : ℕ) × (i < m) × (y ≡ 2 ^ i)
+weight-one zero y h e = let z : y ≡ 0 = omega arith in absurd (omega (arith, e, ap weight z, weight-zero))
+weight-one (suc m) y h e = go (y % 2) refl (λ z. weight-one m (y / 2) (half-lt m h) z)
+  where
+    go : (c : ℕ) → y % 2 ≡ c → (weight (y / 2) ≡ 1 → (i : ℕ) × (i < m) × (y / 2 ≡ 2 ^ i)) → (i : ℕ) × (i < suc m) × (y ≡ 2 ^ i)
+    go zero q ih =
+        let (i, l, f) = ih (omega (arith, ones-step y, q, e)) in
+        (suc i, omega arith, omega (arith, q, f, pow-suc 2 i))
+    go (suc c) q ih =
+        let z : y / 2 ≡ 0 = weight-none (y / 2) (omega (arith, ones-step y, q, e)) in
+        (0, omega arith, omega (arith, q, z))

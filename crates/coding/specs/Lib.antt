@@ -8,3 +8,4 @@ pub mod Leader
 pub mod Order
 pub mod Radius
 pub mod Systematic
+pub mod Columns

@@ -1,7 +1,7 @@
 -- Laws of Decode past its causes: the build gives the leaders and leaves no entry blank, each word's slots are those of the definition,
 -- and demand 3 holds of them. Assumes nothing.
 use mathlib.Core.Path.{_≡_, refl, sym, ap, ap₂, _∙_}
-use mathlib.Core.Logic.{_≢_, _↔_}
+use mathlib.Core.Logic.{_↔_}
 use mathlib.Core.List.{List, _++_, map}
 use mathlib.Core.Bool.{Bool, true, false, not}
 use Prim.Native.Nat.{ℕ, suc, _+_, _-_, _*_, _^_, _≤_, _<_}
@@ -13,26 +13,24 @@ use lib.ListN.{length, getD, length-map, length-replicate, List·getD-append}
 use lib.Seq.{ext-getD}
 use lib.Pow.{pow-mono}
 use lib.Bits.{xor-zero-r}
-use borrow.Author.Tests.{eq-eqb, ne-eqb, eqb-true, le-leb, lt-leb, lt-ltb}
-use Rattle.coding.specs.Lists.{blank, padded, pick, first, both, tabulate}
+use borrow.Author.Tests.{eq-eqb, ne-eqb, le-leb, lt-leb, lt-ltb}
+use Rattle.coding.specs.Lists.{blank, padded, first, both, tabulate}
 use Rattle.coding.specs.Word.{_⊕_, weight, distance}
-use Rattle.coding.specs.Matrix.{encode, Codeword, Inside}
-use Rattle.coding.specs.Check.{check, checks, frees, syndrome}
-use Rattle.coding.specs.Reduced.{reduce}
+use Rattle.coding.specs.Matrix.{encode, Codeword}
+use Rattle.coding.specs.Check.{checks, frees, syndrome}
 use Rattle.coding.specs.Weight.{dmin}
 use Rattle.coding.specs.Leader.{syndromeOf, noLeader, IsLeader, leaderOf, nearestOf}
 use Rattle.coding.specs.Order.{order, fills, blanks}
 use Rattle.coding.specs.Radius.{NearestRule, RadiusRules}
 use Rattle.coding.proofs.WordLaws.{xor-cancel}
-use Rattle.coding.proofs.WeightLaws.{weight-zero, weight-none, distance-sym, distance-tri}
+use Rattle.coding.proofs.WeightLaws.{weight-none, distance-sym, distance-tri}
 use Rattle.coding.proofs.ListLaws.{getD-map, map-same}
 use Rattle.coding.proofs.SearchLaws.{first-is, first-upto}
 use Rattle.coding.proofs.CountLaws.{length-tabulate, getD-tabulate}
-use Rattle.coding.proofs.CheckLaws.{syndrome-lt}
 use Rattle.coding.proofs.WidthLaws.{syndrome-zeros}
 use Rattle.coding.proofs.DistanceLaws.{codeword-apart}
 use Rattle.coding.proofs.DecodeLaws.{leader-is, leader-light, near-is, syndromeOf-lt}
-use Rattle.coding.proofs.BuildLaws.{All, all-more, built, fills-length, fills-same, order-below}
+use Rattle.coding.proofs.BuildLaws.{all-more, built, fills-length, fills-same, order-below}
 use Rattle.coding.proofs.RadiusLaws.{one-within, radius-rules}
 use Rattle.linear.specs.Limits.{maxChecks}
 use Rattle.linear.specs.Accepted.{Accepted}
@@ -40,14 +38,13 @@ use Rattle.linear.specs.declared.answer.Answer.the-variants.{Done}
 use Rattle.linear.proofs.TableLaws.{frees-are}
 use Rattle.decoder.specs.Outcome.{takes, outcomeOf, wordIn, countIn}
 use Rattle.decoder.specs.Built.{columnsOf, BuiltList}
-use Rattle.decoder.specs.Causes.{radiusAnswer, firstLeaderless, leaderAnswer}
+use Rattle.decoder.specs.Causes.{firstLeaderless, leaderAnswer}
 use Rattle.decoder.specs.Decoded.{wordBy, countBy, decodedAs, wordOf, countOf}
 use Rattle.decoder.specs.declared.outcomes.Reading.{Reading}
 use Rattle.decoder.specs.declared.outcomes.Reading.the-variants.{Nearest, Within}
 use Rattle.decoder.specs.declared.outcomes.Outcome.{Outcome}
 use Rattle.decoder.specs.declared.outcomes.Outcome.the-variants.{Clean, Mended, Far}
 use Rattle.decoder.proofs.TryLaws.{columns-encode, light-word}
-use Rattle.decoder.proofs.CauseLaws.{radius-in}
 
 -- ---- the outcome of a word w with the leader e
 

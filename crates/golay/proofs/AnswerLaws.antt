@@ -1,39 +1,30 @@
 -- What the Golay calls promise: the steps end a word as Decode ends it with the Golay matrix within radius 3, so demand 3 is that of any
 -- accepted matrix, with dmin 8; and the message is read back. Assumes nothing.
-use mathlib.Core.Path.{_≡_, refl, sym, ap, ap₂, subst, _∙_}
+use mathlib.Core.Path.{_≡_, refl, sym, ap, subst, _∙_}
 use mathlib.Core.Logic.{_≢_, _↔_}
-use Prim.Native.Nat.{ℕ, zero, suc, _+_, _*_, _/_, _%_, _^_, _≤_, _<_}
-use native.Mathlib.Decide.{decLe, ℕ-discrete}
-use native.Mathlib.Nat.{le-trans}
+use Prim.Native.Nat.{ℕ, _*_, _/_, _^_, _≤_, _<_}
+use native.Mathlib.Decide.{ℕ-discrete}
 use native.Mathlib.Omega.{arith}
 use mathlib.Core.Bool.{true, false}
 use lib.Dec.{ltb, lit<, lit≤}
 use borrow.Author.Tests.{ltb-true}
-use lib.ListN.{length}
 use lib.Bits.{xor-lt, xor-self, xor-zero-r, xor-shifted}
 use lib.Count.{ones, onesIn}
 use Rattle.coding.specs.Word.{_⊕_, weight, distance}
 use Rattle.coding.specs.Matrix.{encode, Codeword, IsMessage, messageOf}
-use Rattle.coding.specs.Leader.{syndromeOf, leaderOf, nearestOf}
-use Rattle.coding.specs.Weight.{dmin}
 use Rattle.coding.specs.Radius.{RadiusRules}
 use Rattle.coding.specs.Systematic.{systematicSyndrome}
-use Rattle.coding.proofs.WordLaws.{xor-cancel, xor-eq}
-use Rattle.coding.proofs.WeightLaws.{weight-zero, distance-sym, distance-tri}
-use Rattle.coding.proofs.DistanceLaws.{codeword-apart}
-use Rattle.coding.proofs.DecodeLaws.{near-is, codeword-lt}
-use Rattle.coding.proofs.RadiusLaws.{one-within}
+use Rattle.coding.proofs.WeightLaws.{weight-zero}
+use Rattle.coding.proofs.DecodeLaws.{codeword-lt}
 use Rattle.coding.proofs.SystematicLaws.{systematic-syndrome, systematic-syndrome-xor, systematic-message, systematic-codeword}
 use Rattle.coding.proofs.SearchLaws.{codeword-test, codeword-fails}
-use Rattle.linear.specs.Refusal.{unless, ifDone}
 use Rattle.linear.specs.declared.answer.Refusal.the-variants.{WordOutside, NoCodeword}
 use Rattle.linear.specs.declared.answer.Answer.the-variants.{Done, Refused}
 use Rattle.linear.proofs.AcceptLaws.{refused-done}
 use Rattle.linear.proofs.TableLaws.{one-is, back-is}
 use Rattle.decoder.specs.Outcome.{outcomeOf, wordIn, countIn}
 use Rattle.decoder.specs.declared.outcomes.Reading.the-variants.{Within}
-use Rattle.decoder.specs.declared.outcomes.Outcome.{Outcome}
-use Rattle.decoder.specs.declared.outcomes.Outcome.the-variants.{Clean, Far}
+use Rattle.decoder.specs.declared.outcomes.Outcome.the-variants.{Clean}
 use Rattle.decoder.proofs.DecodedLaws.{outcome-found, outcome-none, radius-rule, clean-rule}
 use Rattle.golay_code.specs.Golay.{golayChecks, golayRows}
 use Rattle.golay_code.proofs.GolayLaws.{golay-size, golay-inside, golay-accepted, golay-dmin, golay-distance}

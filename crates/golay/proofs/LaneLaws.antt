@@ -7,14 +7,14 @@ use Prim.Native.Nat.{ℕ, zero, suc, _+_, _-_, _*_, _/_, _%_, _^_, _≤_, _<_, m
 use native.Mathlib.Nat.{zero-mul, mul-zero, mul-one, add-mul, mul-assoc, pow-suc, zero-min}
 use native.Mathlib.Decide.{decLe}
 use native.Mathlib.Omega.{arith}
-use lib.Dec.{leb, eqb, lit<}
+use lib.Dec.{leb, lit<}
 use lib.ListN.{length, getD}
 use lib.Bits.{bitAnd, and-zero-l, and-block, and-high}
 use lib.Count.{trailingZeros, under, ones-step, trailing-of-zero}
 use lib.Pow.{shr-shr}
 use borrow.Author.Tests.{le-leb, lt-leb}
 use Rattle.coding.specs.Lists.{pick, first}
-use Rattle.coding.specs.Word.{_⊕_, bit, weight}
+use Rattle.coding.specs.Word.{bit, weight}
 use Rattle.coding.proofs.WordLaws.{and-half, and-odd, bit-lt}
 use Rattle.coding.proofs.WeightLaws.{weight-zero}
 use Rattle.golay.specs.Lanes.{lanes}

@@ -1,26 +1,24 @@
 -- The rows of P near a word: the code's constants are the lanes of P, and lane i reaches 16 exactly where row i is within distance 2.
 -- Assumes nothing.
-use mathlib.Core.Path.{_≡_, refl, sym, ap, ap₂, _∙_}
+use mathlib.Core.Path.{_≡_, refl, sym, ap, _∙_}
 use mathlib.Core.List.{List, [], _∷_}
-use mathlib.Core.Bool.{Bool, true, false}
-use Prim.Native.Nat.{ℕ, zero, suc, _+_, _-_, _*_, _/_, _%_, _^_, _≤_, _<_}
-use native.Mathlib.Nat.{lt-of-le-of-lt, mul-comm, one-mul}
+use Prim.Native.Nat.{ℕ, _+_, _-_, _*_, _/_, _%_, _^_, _≤_, _<_}
+use native.Mathlib.Nat.{lt-of-le-of-lt, mul-comm}
 use native.Mathlib.Decide.{decLe}
 use native.Mathlib.Omega.{arith}
-use lib.Dec.{T, leb, eqb, ltb, ltb→lt, eqb→eq, lit<}
+use lib.Dec.{leb, eqb, eqb→eq}
 use lib.ListN.{length, getD}
 use lib.Bits.{bitAnd, and-le-l}
 use lib.Count.{ones, onesIn, ones-le, trailingZeros}
 use borrow.Author.Tests.{le-leb, lt-leb}
-use Rattle.coding.specs.Lists.{both, pick, first, tabulate}
+use Rattle.coding.specs.Lists.{first, tabulate}
 use Rattle.coding.specs.Word.{_⊕_, bit, weight}
-use Rattle.coding.specs.Matrix.{Inside}
 use Rattle.coding.proofs.WeightLaws.{weight-xor-and}
+use Rattle.coding.proofs.TestLaws.{every-entry}
 use Rattle.coding.proofs.SearchLaws.{first-same}
 use Rattle.coding.proofs.CountLaws.{getD-tabulate}
 use Rattle.golay_code.specs.Golay.{golayChecks}
-use Rattle.golay_code.proofs.GolayLaws.{checkWords, checks-are, golay-size, golay-inside}
-use Rattle.golay_code.proofs.WalkLaws.{both-left, both-right}
+use Rattle.golay_code.proofs.GolayLaws.{golay-size, golay-inside}
 use Rattle.golay.specs.Lanes.{lanes}
 use Rattle.golay.proofs.LaneLaws.{Each, lanes-same, lanes-add, lanes-times, lanes-lt, lanes-high, first-lane}
 
@@ -52,19 +50,9 @@ unfolding golayChecks ones onesIn
 row-lanes = refl
 
 -- every row has odd weight
-allOdd : List ℕ → Bool
-allOdd [] = true
-allOdd (p ∷ P) = both (eqb (weight p % 2) 1) (allOdd P)
-
-all-odd : (P : List ℕ) → T (allOdd P) → Each (λ p. weight p % 2 ≡ 1) P
-unfolding allOdd
-all-odd [] t i h = absurd (omega arith)
-all-odd (p ∷ P) t zero h = eqb→eq (weight p % 2) 1 (both-left (eqb (weight p % 2) 1) (allOdd P) t)
-all-odd (p ∷ P) t (suc i) h = all-odd P (both-right (eqb (weight p % 2) 1) (allOdd P) t) i (omega arith)
-
 rows-odd : Each (λ p. weight p % 2 ≡ 1) golayChecks
-unfolding allOdd golayChecks ones onesIn
-rows-odd = all-odd golayChecks tt
+unfolding golayChecks ones onesIn
+rows-odd i h = eqb→eq (weight (getD golayChecks i 0) % 2) 1 (every-entry (λ p. eqb (weight p % 2) 1) golayChecks tt i h)
 
 -- ---- the tests
 

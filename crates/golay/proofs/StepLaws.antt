@@ -1,30 +1,27 @@
 -- Laws of 000's steps: an error pattern of at most three places has at most one of them among its message places or at most one among
 -- its check places, and since P times P is the identity the second case is the first for the syndrome times P. Assumes nothing.
 use mathlib.Core.Path.{_≡_, refl, sym, ap, ap₂, _∙_}
-use mathlib.Core.Logic.{_≢_}
-use mathlib.Core.Bool.{Bool, true, false}
 use Prim.Native.Nat.{ℕ, zero, suc, _+_, _*_, _/_, _%_, _^_, _≤_, _<_}
-use native.Mathlib.Nat.{mod-lt, lt-of-lt-of-le, pow-suc, mul-comm, zero-mul}
-use native.Mathlib.Decide.{decLe, ℕ-discrete}
+use native.Mathlib.Nat.{mul-comm}
+use native.Mathlib.Decide.{decLe}
 use native.Mathlib.Omega.{arith}
-use lib.Dec.{eqb, leb, lit<, lit≤}
+use lib.Dec.{leb, lit≤}
 use lib.ListN.{length, getD}
-use lib.Bits.{bitAnd, and-mask, xor-comm, xor-zero-r, xor-lt, xor-self, xor-shifted}
-use lib.Count.{ones, onesIn, ones-cat, ones-step}
+use lib.Bits.{bitAnd, and-mask, xor-comm, xor-zero-r, xor-lt, xor-shifted}
+use lib.Count.{ones, onesIn, ones-cat}
 use lib.Pow.{pow-lt, pow-add, shl-exact, shr-lt, split}
 use borrow.Author.Tests.{leb-true, leb-false}
 use Rattle.coding.specs.Lists.{first}
-use Rattle.coding.specs.Word.{_⊕_, weight, distance}
-use Rattle.coding.specs.Matrix.{encode, Codeword}
-use Rattle.coding.specs.Leader.{syndromeOf, leaderOf, nearestOf}
+use Rattle.coding.specs.Word.{_⊕_, weight}
+use Rattle.coding.specs.Matrix.{encode}
 use Rattle.coding.specs.Systematic.{systematicSyndrome}
-use Rattle.coding.proofs.WordLaws.{xor-assoc, xor-cancel, xor-cancel-r, xor-eq, half-lt, xors}
-use Rattle.coding.proofs.WeightLaws.{weight-zero, weight-none, weight-pow, distance-sym, distance-tri}
+use Rattle.coding.proofs.WordLaws.{xor-cancel-r}
+use Rattle.coding.proofs.WeightLaws.{weight-none, weight-one, weight-pow}
 use Rattle.coding.proofs.SearchLaws.{first-hit, first-before}
 use Rattle.coding.proofs.MatrixLaws.{encode-xor, encode-zero, encode-lt, row-message}
-use Rattle.coding.proofs.SystematicLaws.{systematic-syndrome, systematic-syndrome-xor, pattern-syndrome}
-use Rattle.golay_code.specs.Golay.{golayChecks, golayRows}
-use Rattle.golay_code.proofs.GolayLaws.{golay-size, golay-inside, golay-twice, golay-accepted}
+use Rattle.coding.proofs.SystematicLaws.{pattern-syndrome}
+use Rattle.golay_code.specs.Golay.{golayChecks}
+use Rattle.golay_code.proofs.GolayLaws.{golay-size, golay-inside, golay-twice}
 use Rattle.golay.specs.Steps.{Pattern, noPattern, FewInMessage, ErrorPattern}
 
 -- ---- words of 24 places as check places x and message places y
@@ -46,19 +43,6 @@ sum-lt u = encode-lt 12 golayChecks golay-inside u
 
 pub syndrome-lt : (w : ℕ) → systematicSyndrome 12 golayChecks w < 2 ^ 12
 syndrome-lt w = xor-lt 12 (w % 2 ^ 12) (encode golayChecks (w / 2 ^ 12)) (check-places w) (sum-lt (w / 2 ^ 12))
-
--- a word of one place
-weight-one : (m y : ℕ) → y < 2 ^ m → weight y ≡ 1 → (i : ℕ) × (i < m) × (y ≡ 2 ^ i)
-weight-one zero y h e = let z : y ≡ 0 = omega arith in absurd (omega (arith, e, ap weight z, weight-zero))
-weight-one (suc m) y h e = go (y % 2) refl (λ z. weight-one m (y / 2) (half-lt m h) z)
-  where
-    go : (c : ℕ) → y % 2 ≡ c → (weight (y / 2) ≡ 1 → (i : ℕ) × (i < m) × (y / 2 ≡ 2 ^ i)) → (i : ℕ) × (i < suc m) × (y ≡ 2 ^ i)
-    go zero q ih =
-        let (i, l, f) = ih (omega (arith, ones-step y, q, e)) in
-        (suc i, omega arith, omega (arith, q, f, pow-suc 2 i))
-    go (suc c) q ih =
-        let z : y / 2 ≡ 0 = weight-none (y / 2) (omega (arith, ones-step y, q, e)) in
-        (0, omega arith, omega (arith, q, z))
 
 -- ---- patterns
 

@@ -1,7 +1,6 @@
 // The row of P within distance 2 of a word. The twelve tests are done side by side in one 64-bit word: lane i, five bits wide, belongs
 // to row i.
 ghost use mathlib.Core.Path.{_≡_};
-ghost use mathlib.Core.List.{List};
 ghost use Prim.Native.Nat.{_^_, _<_};
 ghost use lib.Bits.{bitAnd};
 ghost use lib.Dec.{leb};

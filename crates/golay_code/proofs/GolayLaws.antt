@@ -4,25 +4,25 @@ use mathlib.Core.Path.{_≡_, refl, sym, ap, _∙_}
 use mathlib.Core.Logic.{_≢_}
 use mathlib.Core.List.{List, [], _∷_, map}
 use mathlib.Core.Bool.{Bool, true, false}
-use Prim.Native.Nat.{ℕ, zero, suc, _^_, _≤_, _<_}
+use Prim.Native.Nat.{ℕ, _^_, _≤_, _<_}
 use native.Mathlib.Nat.{le-antisymm, suc-ne-zero}
-use native.Mathlib.Omega.{arith}
 use lib.Dec.{T, eqb, leb, ltb, leb→le, ltb→lt, eqb→eq, lit<, lit≤}
 use lib.ListN.{length, getD}
 use lib.Bits.{xor-zero-r}
 use lib.Count.{onesIn}
 use Rattle.coding.specs.Lists.{pick, both, tabulate}
-use Rattle.coding.specs.Word.{_⊕_, weight}
+use Rattle.coding.specs.Word.{weight}
 use Rattle.coding.specs.Matrix.{encode, Inside}
 use Rattle.coding.specs.Weight.{dmin, MinimumDistance}
 use Rattle.coding.specs.Systematic.{systematic}
+use Rattle.coding.proofs.WeightLaws.{weight-in}
+use Rattle.coding.proofs.TestLaws.{every-entry, everySum, every-sum}
 use Rattle.coding.proofs.MatrixLaws.{encode-xor, encode-zero}
 use Rattle.coding.proofs.LinearLaws.{encode-map, identity-rows}
 use Rattle.coding.proofs.SystematicLaws.{systematic-length, systematic-inside, systematic-independent}
 use Rattle.coding.proofs.DistanceLaws.{dmin-le, dmin-hit, minimum-distance}
 use Rattle.linear.specs.Accepted.{Accepted}
 use Rattle.golay_code.specs.Golay.{golayChecks, golayRows}
-use Rattle.golay_code.proofs.WalkLaws.{ones-in, both-left, both-right, everySum, every-sum}
 
 -- the rows of P as numbers
 unfoldable pub checkWords : List ℕ
@@ -36,20 +36,9 @@ pub golay-size : length golayChecks ≡ 12
 unfolding golayChecks
 golay-size = refl
 
--- every word of a list is below 2 ^ m, as a test
-allBelow : ℕ → List ℕ → Bool
-allBelow m [] = true
-allBelow m (w ∷ ws) = both (ltb w (2 ^ m)) (allBelow m ws)
-
-all-below : (m : ℕ) (ws : List ℕ) → T (allBelow m ws) → Inside m ws
-unfolding allBelow
-all-below m [] t i h = absurd (omega arith)
-all-below m (w ∷ ws) t zero h = ltb→lt w (2 ^ m) (both-left (ltb w (2 ^ m)) (allBelow m ws) t)
-all-below m (w ∷ ws) t (suc i) h = all-below m ws (both-right (ltb w (2 ^ m)) (allBelow m ws) t) i (omega arith)
-
 pub golay-inside : Inside 12 golayChecks
-unfolding allBelow checkWords
-golay-inside = rw checks-are (all-below 12 checkWords tt)
+unfolding checkWords
+golay-inside i h = ltb→lt (getD golayChecks i 0) (2 ^ 12) (every-entry (λ w. ltb w (2 ^ 12)) golayChecks (rw checks-are tt) i h)
 
 -- P times P is the identity
 twice-rows : map (encode golayChecks) golayChecks ≡ tabulate (λ i. 2 ^ i) 12
@@ -87,7 +76,7 @@ heavy-means w t ne = go (ltb w (2 ^ 24)) refl (eqb w 0) refl t
     go : (a : Bool) → ltb w (2 ^ 24) ≡ a → (b : Bool) → eqb w 0 ≡ b → T (both a (pick b true (leb 8 (onesIn 24 w)))) → 8 ≤ weight w
     go false e b q t = absurd t
     go true e true q t = absurd (ne (eqb→eq w 0 (rw q tt)))
-    go true e false q t = rw (ones-in 24 w (ltb→lt w (2 ^ 24) (rw e tt))) at (leb→le 8 (onesIn 24 w) t)
+    go true e false q t = rw (weight-in 24 w (ltb→lt w (2 ^ 24) (rw e tt))) at (leb→le 8 (onesIn 24 w) t)
 
 codeword-heavy : (u : ℕ) → encode golayRows u ≢ 0 → 8 ≤ weight (encode golayRows u)
 codeword-heavy u =
@@ -97,7 +86,7 @@ codeword-heavy u =
 -- row 0 weighs 8
 row-weight : weight (encode (systematic 12 checkWords) 1) ≡ 8
 unfolding onesIn checkWords
-row-weight = sym (ones-in 24 (encode (systematic 12 checkWords) 1) (lit< tt))
+row-weight = sym (weight-in 24 (encode (systematic 12 checkWords) 1) (lit< tt))
 
 pub golay-dmin : dmin golayRows ≡ 8
 golay-dmin =

@@ -1,8 +1,6 @@
 -- `golay::decode::decode`: the word and the count of the outcome. Assumes nothing.
-use mathlib.Core.Path.{_≡_, sym, ap, _∙_}
-use mathlib.Core.Bool.{true}
+use mathlib.Core.Path.{sym, ap, _∙_}
 use Prim.Native.Nat.{_^_}
-use lib.Dec.{ltb}
 use borrow.Author.Tests.{ltb-true, not-true, not-false}
 use Rattle.decoder.specs.Outcome.{wordIn, countIn}
 use Rattle.decoder.specs.declared.outcomes.Outcome.{Outcome}

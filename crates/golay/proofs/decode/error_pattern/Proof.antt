@@ -1,11 +1,6 @@
 -- `golay::decode::error_pattern`: the first half, or the second with its halves exchanged. Assumes nothing.
-use mathlib.Core.Path.{_≡_, sym, ap, ap₂, subst, _∙_}
-use Prim.Native.Nat.{ℕ, _+_, _*_, _/_, _%_, _^_, _<_}
-use native.Mathlib.Omega.{arith}
-use lib.Dec.{lit≤}
-use lib.Bits.{and-mask, xor-shifted}
-use lib.Pow.{shl-exact}
-use Rattle.coding.specs.Word.{_⊕_}
+use mathlib.Core.Path.{sym, subst}
+use Prim.Native.Nat.{ℕ}
 use Rattle.coding.specs.Matrix.{encode}
 use Rattle.golay_code.specs.Golay.{golayChecks}
 use Rattle.golay.specs.Steps.{Pattern, FewInMessage}

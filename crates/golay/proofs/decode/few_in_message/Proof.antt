@@ -1,9 +1,8 @@
 -- `golay::decode::few_in_message`: the check places alone, or a near row, or neither. Assumes nothing.
 use mathlib.Core.Path.{_≡_, sym, ap, ap₂, _∙_}
 use mathlib.Core.List.{List}
-use Prim.Native.Nat.{ℕ, _+_, _^_, _≤_, _<_}
+use Prim.Native.Nat.{ℕ, _+_, _<_}
 use native.Mathlib.Omega.{arith}
-use lib.Dec.{lit≤}
 use lib.ListN.{getD}
 use Rattle.coding.specs.Word.{_⊕_, weight}
 use Rattle.coding.proofs.MachineLaws.{shl-one}

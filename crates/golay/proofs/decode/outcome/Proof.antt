@@ -1,5 +1,5 @@
 -- `golay::decode::outcome`: the steps end the word as the definition does. Assumes nothing.
-use mathlib.Core.Path.{_≡_, sym, subst, _∙_}
+use mathlib.Core.Path.{sym, subst, _∙_}
 use Prim.Native.Nat.{ℕ}
 use Rattle.golay.specs.Steps.{ErrorPattern}
 use Rattle.golay.proofs.StepLaws.{syndrome-lt}

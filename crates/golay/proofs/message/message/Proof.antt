@@ -1,5 +1,5 @@
 -- `golay::message::message`: the syndrome tells the codewords, and the shift leaves the message places. Assumes nothing.
-use mathlib.Core.Path.{_≡_, sym, _∙_}
+use mathlib.Core.Path.{sym, _∙_}
 use borrow.Author.Tests.{not-true, not-false}
 use Rattle.golay.proofs.AnswerLaws.{read-outside, read-refused, read-done}
 use borrow.Author.Needs.{needs}

@@ -1,12 +1,10 @@
 -- `golay::nearby::near_row`: the constants are lanes of P, so the lowest lane that reaches 16 is the first near row. Assumes nothing.
-use mathlib.Core.Path.{_≡_, refl, sym, ap, ap₂, _∙_}
+use mathlib.Core.Path.{ap, ap₂, _∙_}
 use Prim.Native.Nat.{ℕ, _≤_, _<_, _-_, _+_, _*_, _/_, _^_}
 use native.Mathlib.Omega.{arith}
 use lib.Bits.{bitAnd}
 use lib.Count.{ones-le, trailingZeros}
 use Rattle.coding.specs.Word.{weight}
-use Rattle.golay_code.specs.Golay.{golayChecks}
-use Rattle.golay.specs.Lanes.{lanes}
 use Rattle.golay.proofs.NearLaws.{one-lanes, row-lanes, high-lanes, near-is, overlaps-lt}
 use borrow.Author.Needs.{needs}
 use Rattle.golay.proofs.nearby.near_row.Statement.{statement}

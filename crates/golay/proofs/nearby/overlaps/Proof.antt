@@ -1,10 +1,9 @@
 -- `golay::nearby::overlaps`: the sum so far, and the places from j on, make the places in common. Assumes nothing.
-use mathlib.Core.Path.{_≡_, refl, sym, ap, ap₂, _∙_}
-use mathlib.Core.List.{List}
+use mathlib.Core.Path.{_≡_, sym, ap, ap₂, _∙_}
 use Prim.Native.Nat.{ℕ, _≤_, _<_, _-_, _+_, _*_, _/_, _%_, _^_}
-use native.Mathlib.Nat.{zero-add, div-one, div-eq-of-lt, le-trans, lt-of-le-of-lt, lt-of-lt-of-le}
+use native.Mathlib.Nat.{zero-add, div-one, div-eq-of-lt, lt-of-le-of-lt}
 use native.Mathlib.Omega.{arith}
-use lib.ListN.{length, getD}
+use lib.ListN.{getD}
 use lib.Bits.{bitAnd, and-mask}
 use lib.Pow.{shr-shr}
 use Rattle.coding.specs.Word.{weight, bit}

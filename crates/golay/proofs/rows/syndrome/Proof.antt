@@ -1,5 +1,5 @@
 -- `golay::rows::syndrome`: the mask leaves the check places, the shift the message places. Assumes nothing.
-use mathlib.Core.Path.{_≡_, ap₂}
+use mathlib.Core.Path.{ap₂}
 use Rattle.coding.specs.Word.{_⊕_}
 use lib.Bits.{and-mask}
 use borrow.Author.Needs.{needs}

@@ -1,23 +1,15 @@
--- A test at every sum of rows, by a tree of sums: one computation, and the law that turns it into the rule. Assumes nothing.
-use mathlib.Core.Path.{_≡_, refl, sym, ap, _∙_}
+-- Computed tests, and the rules that they stand for. Assumes nothing.
 use mathlib.Core.List.{List, [], _∷_}
 use mathlib.Core.Bool.{Bool, true, false}
-use Prim.Native.Nat.{ℕ, zero, suc, _+_, _/_, _%_, _^_, _<_}
+use Prim.Native.Nat.{ℕ, zero, suc, _/_, _%_, _<_}
 use native.Mathlib.Omega.{arith}
 use lib.Dec.{T}
+use lib.ListN.{length, getD}
 use lib.Bits.{xor-comm}
-use lib.Count.{onesIn, ones-step}
 use Rattle.coding.specs.Lists.{both}
-use Rattle.coding.specs.Word.{_⊕_, weight}
+use Rattle.coding.specs.Word.{_⊕_}
 use Rattle.coding.specs.Matrix.{sel, encode}
-use Rattle.coding.proofs.WordLaws.{xor-assoc, half-lt}
-use Rattle.coding.proofs.WeightLaws.{weight-zero}
-
--- the weight of a word of m places, by m steps
-pub ones-in : (m w : ℕ) → w < 2 ^ m → onesIn m w ≡ weight w
-unfolding onesIn
-ones-in zero w h = let e : w ≡ 0 = omega arith in rw e (sym weight-zero)
-ones-in (suc m) w h = ap (λ (x : ℕ). w % 2 + x) (ones-in m (w / 2) (half-lt m h)) ∙ sym (ones-step w)
+use Rattle.coding.proofs.WordLaws.{xor-assoc}
 
 pub both-left : (a b : Bool) → T (both a b) → T a
 both-left true b t = tt
@@ -27,7 +19,17 @@ pub both-right : (a b : Bool) → T (both a b) → T b
 both-right true b t = t
 both-right false b t = absurd t
 
--- the test passes at x plus each sum of the rows
+-- the test passes at each entry
+abbrev pub everyEntry : (ℕ → Bool) → List ℕ → Bool
+everyEntry p [] = true
+everyEntry p (x ∷ xs) = both (p x) (everyEntry p xs)
+
+pub every-entry : (p : ℕ → Bool) (xs : List ℕ) → T (everyEntry p xs) → (i : ℕ) → i < length xs → T (p (getD xs i 0))
+every-entry p [] t i h = absurd (omega arith)
+every-entry p (x ∷ xs) t zero h = both-left (p x) (everyEntry p xs) t
+every-entry p (x ∷ xs) t (suc i) h = every-entry p xs (both-right (p x) (everyEntry p xs) t) i (omega arith)
+
+-- the test passes at x plus each sum of the rows, computed as a tree of sums
 abbrev pub everySum : (ℕ → Bool) → List ℕ → ℕ → Bool
 everySum p [] x = p x
 everySum p (r ∷ rows) x = both (everySum p rows x) (everySum p rows (r ⊕ x))

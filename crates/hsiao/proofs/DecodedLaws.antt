@@ -1,0 +1,117 @@
+-- What Decode promises of a word, over any number of check places and any columns of the rule: the radius rules at 1, clean and far.
+-- Assumes nothing.
+use mathlib.Core.Path.{_≡_, refl, sym, ap, _∙_}
+use mathlib.Core.Logic.{_↔_, _⊎_, inl, inr}
+use mathlib.Core.List.{List}
+use mathlib.Core.Bool.{Bool, true, false}
+use Prim.Native.Nat.{ℕ, _^_, _≤_, _<_}
+use native.Mathlib.Decide.{decLe}
+use native.Mathlib.Omega.{arith}
+use lib.Dec.{eqb, ltb, lit≤}
+use lib.ListN.{length, getD}
+use borrow.Author.Tests.{eqb-true, eqb-false, ltb-true, ltb-false, eq-eqb}
+use Rattle.coding.specs.Lists.{pick}
+use Rattle.coding.specs.Radius.{RadiusRules}
+use Rattle.coding.specs.Columns.{SplitWord, splitDistance, units, splitSyndrome, columnPlace, SplitPlaces, SplitCodeword, OddColumns}
+use Rattle.coding.proofs.SearchLaws.{first-hit, first-upto}
+use Rattle.coding.proofs.CountLaws.{length-tabulate, getD-tabulate}
+use Rattle.coding.proofs.RadiusLaws.{radius-found}
+use Rattle.coding.proofs.ColumnLaws.{split-discrete, split-distance-sym, split-distance-tri, split-distance-self, four-apart, IsColumn, check-changed-distance, info-changed-distance, mend-check, mend-info, near-syndrome}
+use Rattle.hsiao.specs.Table.{split}
+use Rattle.hsiao.specs.Outcome.{withCheck, withData, outcomeAt, outcomeBy, wordIn, countIn}
+use Rattle.hsiao.specs.declared.word.Word.{Word}
+use Rattle.hsiao.specs.declared.outcomes.Outcome.{Outcome}
+use Rattle.hsiao.specs.declared.outcomes.Outcome.the-variants.{Clean, Mended, Far}
+
+-- the place found has the column s
+place-column : (cols : List ℕ) (s : ℕ) → columnPlace cols s < length cols → s ≡ getD cols (columnPlace cols s) 0
+place-column cols s h = sym (eqb-true _ _ (first-hit (λ i. eqb (getD cols i 0) s) (length cols) h))
+
+-- a place that has the column s is not before the one found
+place-upto : (cols : List ℕ) (s i : ℕ) → i < length cols → s ≡ getD cols i 0 → columnPlace cols s ≤ i
+place-upto cols s i h e = first-upto (λ j. eqb (getD cols j 0) s) (length cols) i h (eq-eqb (getD cols i 0) s (sym e))
+
+module _ (c : ℕ) where
+  units-length : length (units c) ≡ c
+  units-length = length-tabulate (λ j. 2 ^ j) c
+
+  unit-place : (s : ℕ) → columnPlace (units c) s < c → s ≡ 2 ^ columnPlace (units c) s
+  unit-place s h = place-column (units c) s (omega (arith, h, units-length)) ∙ getD-tabulate (λ j. 2 ^ j) c (columnPlace (units c) s) h
+
+  unit-upto : (s j : ℕ) → j < c → s ≡ 2 ^ j → columnPlace (units c) s ≤ j
+  unit-upto s j h e = place-upto (units c) s j (omega (arith, h, units-length)) (e ∙ sym (getD-tabulate (λ i. 2 ^ i) c j h))
+
+module _ (c : ℕ) (cols : List ℕ) (K : OddColumns c cols) (w : Word) (P : SplitPlaces c cols (split w)) where
+  -- the outcome is a codeword within 1 with its distance as the count, or far and no codeword is within 1
+  abbrev Found : Outcome → Type 0
+  Found o =
+      ((countIn o ≡ 255) × ((b : SplitWord) → SplitCodeword c cols b → 1 < splitDistance (split w) b))
+      ⊎ ((countIn o ≡ 255 → ⊥) × SplitCodeword c cols (split (wordIn o w)) × (countIn o ≡ splitDistance (split w) (split (wordIn o w)))
+      × (splitDistance (split w) (split (wordIn o w)) ≤ 1))
+
+  one-away : (o : Outcome) → countIn o ≡ 1 → splitDistance (split w) (split (wordIn o w)) ≡ 1 → SplitCodeword c cols (split (wordIn o w)) → Found o
+  one-away o e d C = inr ((λ z. absurd (omega (arith, e, z))), C, e ∙ sym d, omega (arith, d))
+
+  found : Found (outcomeBy c cols w)
+  found = go (eqb s₀ 0) (ltb (columnPlace (units c) s₀) c) (ltb (columnPlace cols s₀) (length cols)) refl refl refl
+    where
+      s₀ : ℕ
+      s₀ = splitSyndrome c cols (split w)
+
+      none : (eqb s₀ 0 ≡ false) → (ltb (columnPlace (units c) s₀) c ≡ false) → (ltb (columnPlace cols s₀) (length cols) ≡ false)
+          → (s₀ ≡ 0) ⊎ IsColumn c cols s₀ → ⊥
+      none e₀ e₁ e₂ (inl z) = eqb-false s₀ 0 e₀ z
+      none e₀ e₁ e₂ (inr (inl (j, h, z))) = absurd (omega (arith, ltb-false (columnPlace (units c) s₀) c e₁, unit-upto c s₀ j h z))
+      none e₀ e₁ e₂ (inr (inr (i, h, z))) = absurd (omega (arith, ltb-false (columnPlace cols s₀) (length cols) e₂, place-upto cols s₀ i h z))
+
+      go : (b₀ b₁ b₂ : Bool) → eqb s₀ 0 ≡ b₀ → ltb (columnPlace (units c) s₀) c ≡ b₁ → ltb (columnPlace cols s₀) (length cols) ≡ b₂
+          → Found (pick b₀ (Clean w) (pick b₁ (Mended (withCheck w (columnPlace (units c) s₀)) 1) (pick b₂ (Mended (withData w (columnPlace cols s₀)) 1) Far)))
+      go true b₁ b₂ e₀ e₁ e₂ =
+          let d = split-distance-self (split w) in
+          inr (
+            (λ z. absurd (omega (arith, z))),
+            record { places = P; zero-syndrome = eqb-true s₀ 0 e₀ },
+            sym d,
+            omega (arith, d),
+          )
+      go false true b₂ e₀ e₁ e₂ =
+          let h : columnPlace (units c) s₀ < c = ltb-true (columnPlace (units c) s₀) c e₁ in
+          one-away (Mended (withCheck w (columnPlace (units c) s₀)) 1) refl (check-changed-distance (split w) (columnPlace (units c) s₀))
+          (mend-check c cols (split w) P (columnPlace (units c) s₀) h (unit-place c s₀ h))
+      go false false true e₀ e₁ e₂ =
+          let h : columnPlace cols s₀ < length cols = ltb-true (columnPlace cols s₀) (length cols) e₂ in
+          one-away (Mended (withData w (columnPlace cols s₀)) 1) refl (info-changed-distance (split w) (columnPlace cols s₀))
+          (mend-info c cols (split w) P (columnPlace cols s₀) h (place-column cols s₀ h))
+      go false false false e₀ e₁ e₂ = inl (refl, λ b B. beyond b B (decLe (splitDistance (split w) b) 1))
+        where
+          beyond : (b : SplitWord) → SplitCodeword c cols b → Dec (splitDistance (split w) b ≤ 1) → 1 < splitDistance (split w) b
+          beyond b B (yes l) = absurd (none e₀ e₁ e₂ (near-syndrome c cols (split w) P b B l))
+          beyond b B (no l) = omega arith
+
+  pub radius-one : RadiusRules SplitWord (SplitCodeword c cols) splitDistance 4 1 (split w)
+      (split (wordIn (outcomeBy c cols w) w))
+      (countIn (outcomeBy c cols w)) (countIn (outcomeBy c cols w) ≡ 255)
+  radius-one =
+      radius-found SplitWord split-discrete splitDistance split-distance-sym split-distance-tri (SplitCodeword c cols) 4 (four-apart c cols K)
+      1 (lit≤ tt) (split w) (split (wordIn (outcomeBy c cols w) w))
+      (countIn (outcomeBy c cols w)) (countIn (outcomeBy c cols w) ≡ 255) found
+
+-- the count tells the outcome
+module _ (c : ℕ) (cols : List ℕ) (w : Word) (s : ℕ) where
+  abbrev Told : Outcome → Type 0
+  Told o = ((countIn o ≡ 0) ↔ (o ≡ Clean w)) × ((countIn o ≡ 255) ↔ (o ≡ Far))
+
+  pub told : Told (outcomeAt c cols w s)
+  told = go (eqb s 0) (ltb (columnPlace (units c) s) c) (ltb (columnPlace cols s) (length cols))
+    where
+      clash : (o : Outcome) (m n : ℕ) → countIn o ≡ m → (m ≡ n → ⊥) → (p : Outcome) → countIn p ≡ n → (countIn o ≡ n) ↔ (o ≡ p)
+      clash o m n e ne p f = ((λ z. absurd (ne (sym e ∙ z))), λ z. absurd (ne (sym e ∙ ap countIn z ∙ f)))
+
+      mended : (v : Word) → Told (Mended v 1)
+      mended v = (clash (Mended v 1) 1 0 refl (λ z. absurd (omega (arith, z))) (Clean w) refl, clash (Mended v 1) 1 255 refl (λ z. absurd (omega (arith, z))) Far refl)
+
+      go : (b₀ b₁ b₂ : Bool) → Told (pick b₀ (Clean w) (pick b₁ (Mended (withCheck w (columnPlace (units c) s)) 1) (pick b₂ (Mended (withData w (columnPlace cols s)) 1) Far)))
+      go true b₁ b₂ = (((λ _. refl), λ _. refl), clash (Clean w) 0 255 refl (λ z. absurd (omega (arith, z))) Far refl)
+      go false true b₂ = mended (withCheck w (columnPlace (units c) s))
+      go false false true = mended (withData w (columnPlace cols s))
+      go false false false = (clash Far 255 0 refl (λ z. absurd (omega (arith, z))) (Clean w) refl, ((λ _. refl), λ _. refl))

@@ -1,0 +1,5 @@
+pub mod TableLaws
+pub mod DiagonalLaws
+pub mod PlaceLaws
+pub mod OutcomeLaws
+pub mod DecodedLaws

@@ -1,0 +1,36 @@
+-- The table of columns: one computed test gives the rule of its columns, and so the minimum distance; the totals of its ones likewise.
+-- Assumes nothing.
+use mathlib.Core.Path.{_≡_, refl}
+use Prim.Native.Nat.{_<_}
+use lib.Dec.{lit<}
+use lib.Count.{ones, onesIn}
+use lib.ListN.{length, getD}
+use Rattle.coding.specs.Word.{weight}
+use Rattle.coding.specs.Columns.{OddColumns, SplitMinimumDistance}
+use Rattle.coding.proofs.ColumnLaws.{four-exactly}
+use Rattle.coding.proofs.ColumnTestLaws.{oddColumns, odd-columns}
+use Rattle.hsiao.specs.Table.{columns, Totals}
+
+pub columns-odd : OddColumns 8 columns
+unfolding columns oddColumns onesIn
+columns-odd = odd-columns 8 columns tt
+
+pub columns-length : length columns ≡ 64
+unfolding columns
+columns-length = refl
+
+-- the first column, 07, has weight 3
+first-weight : weight (getD columns 0 0) ≡ 3
+unfolding columns ones
+first-weight = refl
+
+some-column : 0 < length columns
+unfolding columns
+some-column = lit< tt
+
+pub distance-four : SplitMinimumDistance 8 columns 4
+distance-four = four-exactly 8 columns columns-odd 0 some-column first-weight
+
+pub totals : Totals
+unfolding columns ones
+totals = record { ones = refl; each-row = refl }

@@ -1,0 +1,100 @@
+-- `hsiao::columns::numbered`: n is the number of the column s among the first i, 0 where it is not there. Assumes nothing.
+use mathlib.Core.Path.{_≡_, refl, sym, ap, _∙_}
+use mathlib.Core.Logic.{⊎-elim}
+use mathlib.Core.Bool.{Bool, false}
+use Prim.Native.Nat.{ℕ, suc, _≤_, _<_, _-_, _+_}
+use native.Mathlib.Nat.{zero-add}
+use native.Mathlib.Omega.{arith}
+use lib.Dec.{eqb, ltb}
+use lib.ListN.{length, getD}
+use borrow.Author.Tests.{eq-eqb, ne-eqb}
+use Rattle.coding.specs.Lists.{pick, first}
+use Rattle.hsiao.specs.Table.{columns}
+use Rattle.hsiao.proofs.TableLaws.{columns-odd, columns-length}
+use Rattle.hsiao.proofs.PlaceLaws.{numberBelow, number-none, number-found, number-passed}
+use borrow.Author.Needs.{needs}
+use Rattle.hsiao.proofs.columns.numbered.Statement.{statement}
+use Rattle.hsiao.proofs.columns.numbered.Tie as tie
+
+-- the test of column j
+abbrev hit : ℕ → ℕ → Bool
+hit s j = eqb (getD columns j 0) s
+
+abbrev Inv-loop : tie.InvT-loop
+Inv-loop s table n₀ i₀ n i = (i ≤ 64) × (n ≡ numberBelow (hit s) i)
+
+abbrev μ-loop : tie.MeasureT-loop
+μ-loop s table n₀ i₀ n i = 64 - i
+
+-- the columns are different: where column i is s, none before it is
+none-before : (s i : ℕ) → i < 64 → getD columns i 0 ≡ s → (j : ℕ) → j < i → hit s j ≡ false
+none-before s i h e j l =
+    let k : i < length columns = rw columns-length h in
+    let ne : getD columns j 0 ≡ s → ⊥ = λ z. absurd (omega (arith, columns-odd .different j i (omega arith) k (z ∙ sym e))) in
+    ne-eqb (getD columns j 0) s ne
+
+loop-holds : tie.Need-loop-holds Inv-loop μ-loop
+loop-holds c = (search needs, refl)
+
+cast-if1 : tie.Need-cast-if1 Inv-loop μ-loop
+cast-if1 c = search needs
+
+array-read-if1 : tie.Need-array-read-if1 Inv-loop μ-loop
+array-read-if1 c = search needs
+
+add-n : tie.Need-add-n Inv-loop μ-loop
+add-n c = search needs
+
+add-n-2 : tie.Need-add-n-2 Inv-loop μ-loop
+unfolding columns
+add-n-2 c =
+    let l = c .before .before .loop in
+    let s = c .before .before .before .args .s in
+    let i : l .i < 64 = c .before .loop-test .taken in
+    let z : numberBelow (hit s) (l .i) ≡ 0 = number-none (hit s) (l .i) (none-before s (l .i) i (c .if1 .taken)) in
+    record { fits = omega (arith, l .inv .1) }
+
+add-i : tie.Need-add-i Inv-loop μ-loop
+add-i c = search needs
+
+loop-less : tie.Need-loop-less Inv-loop μ-loop
+loop-less c = search needs
+
+loop-again : tie.Need-loop-again Inv-loop μ-loop
+unfolding columns
+loop-again c =
+    let l = c .before .before .loop in
+    let s = c .before .before .before .args .s in
+    let i : l .i < 64 = c .before .loop-test .taken in (
+      omega arith,
+      ⊎-elim
+          (λ w.
+          let none : (j : ℕ) → j < l .i → hit s j ≡ false = none-before s (l .i) i (w .0 .taken) in
+          w .1 ∙ ap (λ (n : ℕ). n + (l .i + 1)) (l .inv .1 ∙ number-none (hit s) (l .i) none) ∙ zero-add (l .i + 1)
+          ∙ sym (number-found (hit s) (l .i) none (eq-eqb _ _ (w .0 .taken))))
+          (λ w. w .1 ∙ l .inv .1 ∙ sym (number-passed (hit s) (l .i) (ne-eqb _ _ (w .0 .left))))
+          (c .if1 .came),
+    )
+
+returns : tie.Need-returns Inv-loop μ-loop
+returns c =
+    let l = c .before .loop in
+    let s = c .before .before .args .s in
+    let e : l .i ≡ 64 = omega (arith, c .loop-test .left, l .inv .0) in
+    l .inv .1 ∙ ap (numberBelow (hit s)) e ∙ ap (λ (m : ℕ). pick (ltb (first (hit s) m) 64) (suc (first (hit s) m)) 0) (sym columns-length)
+
+pub numbered-spec : {M : Type 1} → statement M
+numbered-spec =
+    tie.close
+    (tie.spec
+    Inv-loop
+    μ-loop
+    loop-holds
+    cast-if1
+    array-read-if1
+    add-n
+    add-n-2
+    add-i
+    loop-less
+    loop-again
+    returns)

@@ -1,0 +1,16 @@
+-- 01, Message of the (72,64) code: the message of a codeword is its data bits.
+use mathlib.Core.Path.{_≡_}
+use mathlib.Core.Logic.{_↔_}
+use lib.Dec.{eqb}
+use Rattle.linear.specs.Refusal.{unless, ifDone}
+use Rattle.linear.specs.declared.answer.Refusal.the-variants.{NoCodeword}
+use Rattle.linear.specs.declared.answer.Answer.the-variants.{Done}
+use Rattle.hsiao.specs.Table.{syndromeOf, IsCodeword}
+use Rattle.hsiao.specs.declared.word.Word.{Word}
+use Rattle.hsiao.specs.declared.read.ReadBack.{ReadBack}
+
+-- a word with a syndrome other than 0, which is no codeword, is refused, with 0 as its data; a codeword is read
+pub record DataRead (w : Word) (r : ReadBack) : Type 0 where
+  pub answer : r .answer ≡ unless (eqb (syndromeOf w) 0) (NoCodeword 0) Done
+  pub bits : r .«data» ≡ ifDone (r .answer) (w .«data») 0
+  pub read : (r .answer ≡ Done) ↔ IsCodeword w

@@ -1,0 +1,5 @@
+pub mod Table
+pub mod Outcome
+pub mod Encoded
+pub mod Decoded
+pub mod DataRead

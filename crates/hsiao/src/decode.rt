@@ -1,0 +1,21 @@
+// Decode at radius 1, one word at a time. No word is refused.
+use crate::outcomes::count_in;
+use crate::outcomes::judged;
+use crate::outcomes::word_in;
+use crate::word::Word;
+ghost use Rattle.hsiao.specs.Decoded.{Decoded};
+
+// The word and its count; a far word is answered unchanged with count 255.
+pub struct Decoding {
+    pub word: Word,
+    pub count: u8,
+}
+
+pub fn decode(w: Word) -> Decoding
+    ensures { λ r. ⌜ Decoded w r ⌝ }
+{
+    let o = judged(w);
+    let word = word_in(o, w);
+    let count = count_in(o);
+    Decoding { word, count }
+}

@@ -1,0 +1,46 @@
+-- `vectors_hsiao::changes::returned` is safe and ends. Assumes nothing.
+use Prim.Native.Nat.{_≤_, _-_}
+use borrow.Author.Needs.{needs}
+use Rattle.vectors_hsiao.proofs.changes.returned.Statement.{statement}
+use Rattle.vectors_hsiao.proofs.changes.returned.Tie as tie
+
+abbrev Inv-loop : tie.InvT-loop
+Inv-loop w n₀ p₀ n p = p ≤ 72
+
+abbrev μ-loop : tie.MeasureT-loop
+μ-loop w n₀ p₀ n p = 72 - p
+
+loop-holds : tie.Need-loop-holds Inv-loop μ-loop
+loop-holds c = search needs
+
+comes-back-requires : tie.Need-comes-back-requires Inv-loop μ-loop
+comes-back-requires c κs = search needs
+
+counted-requires : tie.Need-counted-requires Inv-loop μ-loop
+counted-requires c κs = search needs
+
+add-p : tie.Need-add-p Inv-loop μ-loop
+add-p c = search needs
+
+loop-less : tie.Need-loop-less Inv-loop μ-loop
+loop-less c = search needs
+
+loop-again : tie.Need-loop-again Inv-loop μ-loop
+loop-again c = search needs
+
+returns : tie.Need-returns Inv-loop μ-loop
+returns c = search needs
+
+pub returned-spec : {M : Type 1} → statement M
+returned-spec =
+    tie.close
+    (tie.spec
+    Inv-loop
+    μ-loop
+    loop-holds
+    comes-back-requires
+    counted-requires
+    add-p
+    loop-less
+    loop-again
+    returns)
