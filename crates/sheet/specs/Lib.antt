@@ -1,0 +1,3 @@
+pub mod Fault
+pub mod Field
+pub mod Sheet

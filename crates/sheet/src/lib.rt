@@ -1,0 +1,4 @@
+// The code sheet: document 01, "The code sheet", over the decoder.
+pub mod answer; // how the reading of a sheet ends, with causes 12 and 13
+pub mod field; // one field
+pub mod read; // the sheet: bytes to a sheet or a refusal
