@@ -1,5 +1,5 @@
 -- Laws of the causes of Decode: which group refuses, and what is known when none does. Assumes nothing.
-use mathlib.Core.Path.{_≡_, refl, sym, ap, _∙_}
+use mathlib.Core.Path.{_≡_, refl, ap, _∙_}
 use mathlib.Core.List.{List}
 use mathlib.Core.Bool.{Bool, true, false}
 use Prim.Native.Nat.{ℕ, _+_, _-_, _*_, _/_, _^_, _≤_, _<_, min}
@@ -11,13 +11,13 @@ use Rattle.coding.specs.Weight.{dmin}
 use Rattle.coding.specs.Matrix.{firstDependent}
 use Rattle.linear.specs.Limits.{inRange, maxWords}
 use Rattle.linear.specs.Refusal.{numberOf, unless, andThen, ifDone}
-use Rattle.linear.specs.Accepted.{firstOutside, shapeAnswer, matrixAnswer, Accepted}
+use Rattle.linear.specs.Accepted.{firstOutside, shapeAnswer, matrixAnswer}
 use Rattle.linear.specs.Encoded.{listAnswer}
 use Rattle.linear.specs.declared.answer.Refusal.{Refusal}
 use Rattle.linear.specs.declared.answer.Refusal.the-variants.{OutOfRange, RowCount, RowOutside, Dependent, RadiusTooLarge, TooManyWords, WordOutside, ShortOutput, ShortWork}
 use Rattle.linear.specs.declared.answer.Answer.{Answer}
 use Rattle.linear.specs.declared.answer.Answer.the-variants.{Done, Refused}
-use Rattle.linear.proofs.AcceptLaws.{accepted-in, unless-done, andThen-done}
+use Rattle.linear.proofs.AcceptLaws.{unless-done, andThen-done}
 use Rattle.linear.proofs.ListLaws.{Listed, list-in}
 use Rattle.weights.specs.Described.{WeightsOf}
 use Rattle.weights.specs.declared.weights.Weights.{Weights}

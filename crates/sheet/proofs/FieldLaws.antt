@@ -1,18 +1,17 @@
 -- Laws of the reading: what a field that was read leaves known, and one step of the recursion over fields. Assumes nothing.
-use mathlib.Core.Path.{_≡_, refl, sym, ap, _∙_}
+use mathlib.Core.Path.{_≡_, refl}
 use mathlib.Core.Bool.{Bool, true, false}
 use mathlib.Core.List.{List}
-use Prim.Native.Nat.{ℕ, zero, suc, _+_, _-_, _*_, _/_, _%_, _≤_, _<_}
+use Prim.Native.Nat.{ℕ, zero, suc, _+_, _-_, _≤_, _<_}
 use native.Mathlib.Omega.{arith}
-use borrow.Author.Tests.{ltb-false, leb-false, lt-ltb, le-ltb, eqb-true}
-use lib.Dec.{ltb, leb, eqb}
+use borrow.Author.Tests.{ltb-false, leb-false, lt-ltb, le-ltb}
+use lib.Dec.{ltb, leb}
 use lib.ListN.{length, getD, set}
 use Rattle.coding.specs.Lists.{pick}
-use Rattle.sheet.specs.Field.{maxTag, byteContent, wordsContent, contentOf, sizeAt, gotten, fieldAt}
-use Rattle.sheet.specs.Sheet.{sheetIn, follow, sheetFrom}
+use Rattle.sheet.specs.Field.{maxTag, contentOf, sizeAt, gotten, fieldAt}
+use Rattle.sheet.specs.Sheet.{sheetIn, sheetFrom}
 use Rattle.sheet.specs.declared.answer.Fault.{Fault}
 use Rattle.sheet.specs.declared.answer.Fault.the-variants.{Layout, Tag}
-use Rattle.sheet.specs.declared.answer.SheetAnswer.{SheetAnswer}
 use Rattle.sheet.specs.declared.answer.SheetAnswer.the-variants.{Refused}
 use Rattle.sheet.specs.declared.field.Content.{Content}
 use Rattle.sheet.specs.declared.field.Content.the-variants.{Absent, Byte, Words}

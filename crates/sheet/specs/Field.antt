@@ -1,11 +1,9 @@
 -- 01, "The code sheet": one field, a one-byte tag, a two-byte length (high byte first), and the content.
 use mathlib.Core.List.{List}
-use mathlib.Core.Bool.{Bool, true, false}
 use Prim.Native.Nat.{ℕ, _+_, _-_, _*_, _/_, _%_}
 use lib.Dec.{eqb, leb, ltb}
 use lib.ListN.{length, getD}
-use Rattle.coding.specs.Lists.{pick, both}
-use Rattle.sheet.specs.declared.answer.Fault.{Fault}
+use Rattle.coding.specs.Lists.{pick}
 use Rattle.sheet.specs.declared.answer.Fault.the-variants.{Layout, Tag}
 use Rattle.sheet.specs.declared.field.Content.{Content}
 use Rattle.sheet.specs.declared.field.Content.the-variants.{Absent, Byte, Words}

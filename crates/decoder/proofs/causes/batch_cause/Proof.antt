@@ -1,5 +1,5 @@
 -- `decoder::causes::batch_cause`: the causes group by group. Assumes nothing.
-use mathlib.Core.Path.{_≡_, sym, ap, _∙_}
+use mathlib.Core.Path.{_≡_, sym, _∙_}
 use Rattle.linear.specs.Accepted.{matrixAnswer, Accepted}
 use Rattle.linear.specs.declared.answer.Answer.the-variants.{Done}
 use Rattle.decoder.proofs.CauseLaws.{at-matrix, at-radius, at-lists}

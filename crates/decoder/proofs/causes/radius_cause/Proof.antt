@@ -1,5 +1,5 @@
 -- `decoder::causes::radius_cause`: the minimum distance is that of the walk. Assumes nothing.
-use mathlib.Core.Path.{_≡_, sym, ap, _∙_}
+use mathlib.Core.Path.{_≡_, ap, _∙_}
 use Prim.Native.Nat.{_≤_}
 use Rattle.coding.specs.Weight.{dmin}
 use Rattle.linear.proofs.AcceptLaws.{in-accepted}
