@@ -9,7 +9,7 @@ use native.Mathlib.Omega.{arith}
 use borrow.Author.Tests.{le-leb, lt-leb}
 use lib.Dec.{ltb, eqb}
 use lib.ListN.{length, getD, drop, set, replicate}
-use lib.Seq.{getD-set-same, getD-set-other, set-out}
+use lib.Seq.{length-take-le, getD-set-same, getD-set-other, set-out}
 use Rattle.coding.specs.Lists.{pick}
 use Rattle.sheet.specs.Appended.{Appends}
 use Rattle.sheet.specs.Field.{maxTag, byteContent, wordsContent, contentOf, fieldAt}
@@ -41,10 +41,11 @@ module _ (sheet before : List ℕ) where
         count = rw l (B .ends ∙ zero-add (length (outputOf sheet)));
         list = rw l (B .list ∙ ap (λ (m : ℕ). outputOf sheet ++ drop m before) (zero-add (length (outputOf sheet))));
         fits = appends-end B;
+        part = sym (length-take-le r after (appends-end B));
       }
 
   pub ran-not : length before < maxOutput → Ran sheet before 0 before
-  ran-not h = let l = lt-leb maxOutput (length before) h in record { count = rw l refl; list = rw l refl; fits = omega arith }
+  ran-not h = let l = lt-leb maxOutput (length before) h in record { count = rw l refl; list = rw l refl; fits = omega arith; part = refl }
 
 -- ---- a sheet's words are within its bytes
 
