@@ -53,7 +53,7 @@ follow (Got tag content next) rest = rest tag content next
 follow (Bad fault) rest = Refused fault
 
 -- the fields from a position on, after the last tag and with the contents so far, in at most d steps: a step is a field, which takes
--- a byte or more, so that d steps are enough for d bytes
+-- three bytes or more, so that d steps are enough for d bytes
 unfoldable pub sheetFrom : ℕ → List ℕ → ℕ → ℕ → List Content → SheetAnswer
 sheetFrom zero s at last contents = sheetIn contents (length s)
 sheetFrom (suc d) s at last contents =
