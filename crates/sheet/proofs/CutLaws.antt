@@ -10,7 +10,7 @@ use borrow.Author.Tests.{ne-eqb, lt-leb}
 use lib.ListN.{length, take}
 use lib.Seq.{take-all, length-take-le}
 use Rattle.coding.specs.Weight.{dmin}
-use Rattle.linear.specs.Limits.{inRange, maxWords, maxChecks}
+use Rattle.linear.specs.Limits.{inRange, maxRows, maxWords, maxChecks}
 use Rattle.linear.specs.Refusal.{unless, andThen}
 use Rattle.linear.specs.Accepted.{shapeAnswer, matrixAnswer}
 use Rattle.linear.specs.Encoded.{listAnswer}
@@ -25,7 +25,7 @@ use Rattle.decoder.proofs.CauseLaws.{at-matrix}
 use Rattle.sheet.specs.Output.{linesOf, batchOutput}
 
 -- the number of rows is none that a code has: cause 1 or 2
-shapes : (n k : ℕ) (rows : List ℕ) → 16 < length rows → shapeAnswer n k rows ≡ unless (inRange n k) OutOfRange (Refused RowCount)
+shapes : (n k : ℕ) (rows : List ℕ) → maxRows < length rows → shapeAnswer n k rows ≡ unless (inRange n k) OutOfRange (Refused RowCount)
 unfolding shapeAnswer
 shapes n k rows h = go (inRange n k) refl
   where
@@ -48,7 +48,7 @@ module _ (n k : ℕ) (reading : Reading) where
   refused-batch rows words c e = ap (λ (a : Answer). andThen a (leaderAnswer n k rows)) e
 
   -- many rows
-  many-rows : (rows words : List ℕ) (c : Refusal) → 16 < length rows → unless (inRange n k) OutOfRange (Refused RowCount) ≡ Refused c
+  many-rows : (rows words : List ℕ) (c : Refusal) → maxRows < length rows → unless (inRange n k) OutOfRange (Refused RowCount) ≡ Refused c
       → decodes rows words ≡ Refused c
   many-rows rows words c h e =
       refused-batch rows words c
