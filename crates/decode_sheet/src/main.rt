@@ -2,6 +2,7 @@
 use libc::STDERR_FILENO;
 use libc::STDIN_FILENO;
 use libc::STDOUT_FILENO;
+use sheet::read::MAX_SHEET;
 use sheet::run::MAX_OUTPUT;
 use sheet::run::run;
 
@@ -27,9 +28,9 @@ fn print_run(bytes: &[u8]) {
 
 // One byte more than a sheet may have is enough to refuse it.
 fn main() {
-    let mut bytes = [0u8; 4097];
+    let mut bytes = [0u8; MAX_SHEET + 1];
     let got = io::read_full(STDIN_FILENO, &mut bytes);
-    if got < 4097 {
+    if got <= MAX_SHEET {
         if !ended() {
             complain(b"standard input cannot be read\n");
             return;

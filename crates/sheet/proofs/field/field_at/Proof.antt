@@ -33,10 +33,14 @@ shared-slice-read-size : tie.Need-shared-slice-read-size
 shared-slice-read-size c = search needs
 
 cast-size : tie.Need-cast-size
-cast-size c = omega (arith, c .shared-slice-known3 .given (c .before .before .before .before .before .before .args .at + 1))
+cast-size c =
+    let at = c .before .before .before .before .before .before .args .at in
+    omega (arith, c .shared-slice-known3 .given (at + 1), c .shared-slice-known3 .given (at + 2))
 
 mul-size : tie.Need-mul-size
-mul-size c = omega (arith, c .shared-slice-known3 .given (c .before .before .before .before .before .before .args .at + 1))
+mul-size c =
+    let at = c .before .before .before .before .before .before .args .at in
+    omega (arith, c .shared-slice-known3 .given (at + 1), c .shared-slice-known3 .given (at + 2))
 
 add-size-2 : tie.Need-add-size-2
 add-size-2 c = search needs
@@ -45,7 +49,9 @@ shared-slice-read-size-2 : tie.Need-shared-slice-read-size-2
 shared-slice-read-size-2 c = search needs
 
 cast-size-2 : tie.Need-cast-size-2
-cast-size-2 c = omega (arith, c .shared-slice-known4 .given (c .before .before .before .before .before .before .before .args .at + 2))
+cast-size-2 c =
+    let at = c .before .before .before .before .before .before .before .args .at in
+    omega (arith, c .shared-slice-known4 .given (at + 2), c .shared-slice-known4 .given (at + 1))
 
 add-size-3 : tie.Need-add-size-3
 add-size-3 c =
