@@ -1,5 +1,5 @@
 -- Laws of the causes of Decode: which group refuses, and what is known when none does. Assumes nothing.
-use mathlib.Core.Path.{_≡_, refl, sym, ap, _∙_}
+use mathlib.Core.Path.{_≡_, refl, ap, _∙_}
 use mathlib.Core.List.{List}
 use mathlib.Core.Bool.{Bool, true, false}
 use Prim.Native.Nat.{ℕ, _+_, _-_, _*_, _/_, _^_, _≤_, _<_, min}
@@ -10,16 +10,18 @@ use borrow.Author.Tests.{leb-true, le-leb, lt-leb}
 use Rattle.coding.specs.Weight.{dmin}
 use Rattle.coding.specs.Matrix.{firstDependent}
 use Rattle.linear.specs.Limits.{inRange, maxWords}
-use Rattle.linear.specs.Refusal.{numberOf, unless, andThen}
-use Rattle.linear.specs.Accepted.{firstOutside, shapeAnswer, matrixAnswer, Accepted}
+use Rattle.linear.specs.Refusal.{numberOf, unless, andThen, ifDone}
+use Rattle.linear.specs.Accepted.{firstOutside, shapeAnswer, matrixAnswer}
 use Rattle.linear.specs.Encoded.{listAnswer}
 use Rattle.linear.specs.declared.answer.Refusal.{Refusal}
 use Rattle.linear.specs.declared.answer.Refusal.the-variants.{OutOfRange, RowCount, RowOutside, Dependent, RadiusTooLarge, TooManyWords, WordOutside, ShortOutput, ShortWork}
 use Rattle.linear.specs.declared.answer.Answer.{Answer}
 use Rattle.linear.specs.declared.answer.Answer.the-variants.{Done, Refused}
-use Rattle.linear.proofs.AcceptLaws.{accepted-in, unless-done, andThen-done}
+use Rattle.linear.proofs.AcceptLaws.{unless-done, andThen-done}
 use Rattle.linear.proofs.ListLaws.{Listed, list-in}
-use Rattle.decoder.specs.Causes.{radiusAnswer, workAnswer, batchAnswer}
+use Rattle.weights.specs.Described.{WeightsOf}
+use Rattle.weights.specs.declared.weights.Weights.{Weights}
+use Rattle.decoder.specs.Causes.{radiusAnswer, workAnswer, listsAnswer, batchAnswer}
 use Rattle.decoder.specs.declared.outcomes.Reading.{Reading}
 use Rattle.decoder.specs.declared.outcomes.Reading.the-variants.{Nearest, Within}
 
@@ -34,6 +36,27 @@ radius-fits r d h l = simp (le-leb (2 * r + 1) d (omega arith))
 pub radius-in : (r d : ℕ) → radiusAnswer (Within r) d ≡ Done → 2 * r + 1 ≤ d
 radius-in r d e = leb-true (2 * r + 1) d (unless-done (leb (2 * r + 1) d) RadiusTooLarge Done e .0)
 
+-- what the walk leaves known of an accepted matrix
+pub measured-is : {n k : ℕ} {rows : List ℕ} {w : Weights} → WeightsOf n k rows w → w .answer ≡ Done → (w .dmin ≡ dmin rows) × (1 ≤ w .dmin)
+measured-is {rows = rows} {w = w} W d =
+    let e : w .dmin ≡ dmin rows = rw d at (W .dmin-is) in
+    (e, rw e (W .distance d .bounds .0))
+
+-- a refusal has no dmin beside it
+pub no-dmin : (a : Answer) (c : Refusal) (d : ℕ) → a ≡ Refused c → 0 ≡ ifDone a d 0
+no-dmin a c d e = rw e refl
+
+-- ---- causes 6 to 9
+
+module _ (n k : ℕ) (words : List ℕ) (slots bytes room : ℕ) where
+  pub at-list : (c : Refusal) → listAnswer words n (min slots bytes) ≡ Refused c → Refused c ≡ listsAnswer n k words slots bytes room
+  unfolding listsAnswer
+  at-list c e = rw e refl
+
+  pub at-work : listAnswer words n (min slots bytes) ≡ Done → workAnswer room (2 ^ (n - k)) ≡ listsAnswer n k words slots bytes room
+  unfolding listsAnswer
+  at-work e = rw e refl
+
 -- ---- the groups in order
 
 module _ (n k : ℕ) (rows : List ℕ) (reading : Reading) (words : List ℕ) (slots bytes room : ℕ) where
@@ -46,14 +69,9 @@ module _ (n k : ℕ) (rows : List ℕ) (reading : Reading) (words : List ℕ) (s
     unfolding batchAnswer
     at-radius c e = rw (m, e) refl
 
-    module _ (q : radiusAnswer reading (dmin rows) ≡ Done) where
-      pub at-list : (c : Refusal) → listAnswer words n (min slots bytes) ≡ Refused c → Refused c ≡ batchAnswer n k rows reading words slots bytes room
-      unfolding batchAnswer
-      at-list c e = rw (m, q, e) refl
-
-      pub at-work : listAnswer words n (min slots bytes) ≡ Done → workAnswer room (2 ^ (n - k)) ≡ batchAnswer n k rows reading words slots bytes room
-      unfolding batchAnswer
-      at-work e = rw (m, q, e) refl
+    pub at-lists : radiusAnswer reading (dmin rows) ≡ Done → listsAnswer n k words slots bytes room ≡ batchAnswer n k rows reading words slots bytes room
+    unfolding batchAnswer
+    at-lists q = rw (m, q) refl
 
   -- what is known when causes 1 to 9 have passed
   pub record Passed : Type 0 where
@@ -63,7 +81,7 @@ module _ (n k : ℕ) (rows : List ℕ) (reading : Reading) (words : List ℕ) (s
     pub work : 2 ^ (n - k) ≤ room
 
   pub batch-in : batchAnswer n k rows reading words slots bytes room ≡ Done → Passed
-  unfolding batchAnswer
+  unfolding batchAnswer listsAnswer
   batch-in e =
       let (a, e1) = andThen-done (matrixAnswer n k rows) _ e in
       let (b, e2) = andThen-done (radiusAnswer reading (dmin rows)) _ e1 in
@@ -93,7 +111,7 @@ early-andThen (Refused c) later f g = f
 
 pub batch-early : (n k : ℕ) (rows : List ℕ) (reading : Reading) (words : List ℕ) (slots bytes room : ℕ) (c : Refusal)
     → batchAnswer n k rows reading words slots bytes room ≡ Refused c → eqb (numberOf c) 11 ≡ false
-unfolding batchAnswer matrixAnswer shapeAnswer listAnswer
+unfolding batchAnswer listsAnswer matrixAnswer shapeAnswer listAnswer
 batch-early n k rows reading words slots bytes room =
     early-andThen (matrixAnswer n k rows) _
     (early-andThen (shapeAnswer n k rows) _

@@ -99,6 +99,10 @@ module _ (n k : ℕ) (rows : List ℕ) (A : Accepted n k rows) where
   light : (s : ℕ) → s < 2 ^ (n - k) → weight (leaderOf n rows s) ≤ n - k
   light s h = rw c-is at (leader-light n rows (A .inside) s (rw c-is h))
 
+  -- so that no count is 255
+  pub leader-weight : (w : ℕ) → weight (leaderOf n rows (syndromeOf n rows w)) ≤ n - k
+  leader-weight w = light (syndromeOf n rows w) (syndrome-below w)
+
   pub leader-at : (s : ℕ) → s < 2 ^ (n - k) → IsLeader n rows s (leaderOf n rows s)
   leader-at s h = leader-is n rows (A .inside) s (rw c-is h)
 

@@ -1,12 +1,10 @@
 -- What is known at each step of Decode, past its causes: the number of syndromes, the check rows, the list built and the lists written.
 -- Assumes nothing.
-use mathlib.Core.Path.{_≡_, refl, sym, ap, ap₂, _∙_}
-use mathlib.Core.Logic.{_≢_}
+use mathlib.Core.Path.{_≡_, ap, _∙_}
 use mathlib.Core.List.{List, _++_, map}
-use Prim.Native.Nat.{ℕ, _+_, _-_, _*_, _%_, _^_, _≤_, _<_, min}
-use native.Mathlib.Nat.{le-refl}
+use Prim.Native.Nat.{ℕ, _-_, _*_, _%_, _^_, _≤_, _<_}
 use native.Mathlib.Omega.{arith}
-use lib.ListN.{length, getD, take, drop, length-map, length-append, length-drop}
+use lib.ListN.{length, take, drop, length-append, length-drop}
 use lib.Seq.{take-at}
 use Rattle.coding.specs.Lists.{padded, tabulate}
 use Rattle.coding.specs.Check.{checks, syndrome}
@@ -16,7 +14,6 @@ use Rattle.coding.proofs.MachineLaws.{shl-one}
 use Rattle.linear.specs.Limits.{maxChecks}
 use Rattle.linear.specs.Accepted.{Accepted}
 use Rattle.linear.specs.Checks.{ParityChecks}
-use Rattle.linear.specs.declared.answer.Answer.{Answer}
 use Rattle.linear.specs.declared.answer.Answer.the-variants.{Done}
 use Rattle.linear.specs.declared.check.Checks.{Checks}
 use Rattle.linear.proofs.AcceptLaws.{in-accepted}
@@ -31,10 +28,6 @@ use Rattle.decoder.proofs.PromiseLaws.{past-causes, decode-done}
 -- causes 1 to 9 have passed
 pub record Past (n k : ℕ) (rows : List ℕ) (reading : Reading) (words out counts work : List ℕ) : Type 0 where
   pub passed : batchAnswer n k rows reading words (length out) (length counts) (length work) ≡ Done
-
-pub past : (n k : ℕ) (rows : List ℕ) (reading : Reading) (words out counts work : List ℕ) {a : Answer} → a ≡ Done
-    → a ≡ batchAnswer n k rows reading words (length out) (length counts) (length work) → Past n k rows reading words out counts work
-past n k rows reading words out counts work d e = record { passed = sym e ∙ d }
 
 module _ {n k : ℕ} {rows : List ℕ} {reading : Reading} {words out counts work : List ℕ} (g : Past n k rows reading words out counts work) where
   A : Accepted n k rows

@@ -26,12 +26,14 @@ radiusAnswer (Within r) d = unless (leb (2 * r + 1) d) RadiusTooLarge Done
 abbrev pub workAnswer : ℕ → ℕ → Answer
 workAnswer room size = unless (leb size room) ShortWork Done
 
--- causes 1 to 9; both output lists are as long as the words
+-- causes 6 to 9; both output lists are as long as the words
+unfoldable pub listsAnswer : ℕ → ℕ → List ℕ → ℕ → ℕ → ℕ → Answer
+listsAnswer n k words slots bytes room = andThen (listAnswer words n (min slots bytes)) (workAnswer room (2 ^ (n - k)))
+
+-- causes 1 to 9
 unfoldable pub batchAnswer : ℕ → ℕ → List ℕ → Reading → List ℕ → ℕ → ℕ → ℕ → Answer
 batchAnswer n k rows reading words slots bytes room =
-    andThen (matrixAnswer n k rows)
-    (andThen (radiusAnswer reading (dmin rows))
-    (andThen (listAnswer words n (min slots bytes)) (workAnswer room (2 ^ (n - k)))))
+    andThen (matrixAnswer n k rows) (andThen (radiusAnswer reading (dmin rows)) (listsAnswer n k words slots bytes room))
 
 -- cause 11: the first syndrome that belongs to no word of n places with weight at most n - k, or their number where there is none
 unfoldable pub firstLeaderless : ℕ → ℕ → List ℕ → ℕ

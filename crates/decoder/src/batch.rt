@@ -1,5 +1,8 @@
 // Decode: a batch of received words, read as the nearest codewords or within a radius.
+use crate::causes::Measured;
 use crate::causes::batch_cause;
+use crate::causes::measured_cause;
+use crate::causes::unmeasured;
 use crate::leaders::build;
 use crate::outcomes::Reading;
 use crate::outcomes::count_in;
@@ -15,6 +18,10 @@ ghost use mathlib.Core.List.{map, _++_};
 ghost use Prim.Native.Nat.{ℕ, _≤_, _<_};
 ghost use lib.ListN.{length, drop};
 ghost use Rattle.coding.specs.Check.{syndrome};
+ghost use Rattle.coding.specs.Weight.{dmin};
+ghost use Rattle.linear.specs.Refusal.{ifDone};
+ghost use Rattle.linear.specs.declared.answer.Answer.the-variants.{Done};
+ghost use Rattle.decoder.specs.Causes.{batchAnswer};
 ghost use Rattle.decoder.specs.Decoded.{wordBy, countBy, Decoded};
 
 // Each word is decoded with its leader; the later slots keep their values.
@@ -40,6 +47,31 @@ fn decode_words(
         counts[i] = count_in(o);
         i += 1;
     }
+}
+
+// The leaders are built and the words decoded, past causes 1 to 9.
+fn decode_passed(
+    n: u32,
+    k: u32,
+    rows: &[u32],
+    reading: Reading,
+    words: &[u32],
+    out: &mut [u32],
+    counts: &mut [u8],
+    work: &mut [u32],
+) -> Answer
+    requires { ⌜ batchAnswer n k (now rows) reading (now words) (length (now out)) (length (now counts)) (length (now work)) ≡ Done ⌝ }
+    ensures { λ r. ⌜ Decoded n k (now (rows .entry)) reading (now (words .entry)) (now (out .entry)) (now (counts .entry)) (now (work .entry)) r (now (out .exit)) (now (counts .exit)) (now (work .exit)) ⌝ }
+{
+    let c = parity_checks(n, k, rows);
+    let checks = c.rows;
+    let size = 1usize << (n - k);
+    let bad = build(&checks, n as usize, (n - k) as usize, &mut work[..size]);
+    if bad != size {
+        return Answer::Refused(Refusal::NoLeader(bad));
+    }
+    decode_words(&checks, reading, words, &work[..size], out, counts);
+    Answer::Done
 }
 
 // Decodes the words: codewords and counts into the first two lists, the leaders into the third.
@@ -68,13 +100,43 @@ pub fn decode(
     let Answer::Done = a else {
         return a;
     };
-    let c = parity_checks(n, k, rows);
-    let checks = c.rows;
-    let size = 1usize << (n - k);
-    let bad = build(&checks, n as usize, (n - k) as usize, &mut work[..size]);
-    if bad != size {
-        return Answer::Refused(Refusal::NoLeader(bad));
+    decode_passed(n, k, rows, reading, words, out, counts, work)
+}
+
+// The same, with the minimum distance beside the answer; the codewords are walked once, in either reading.
+pub fn decode_measured(
+    n: u32,
+    k: u32,
+    rows: &[u32],
+    reading: Reading,
+    words: &[u32],
+    out: &mut [u32],
+    counts: &mut [u8],
+    work: &mut [u32],
+) -> Measured
+    ensures { λ r. ⌜ Decoded n k (now (rows .entry)) reading (now (words .entry)) (now (out .entry)) (now (counts .entry)) (now (work .entry)) (r .answer) (now (out .exit)) (now (counts .exit)) (now (work .exit)) ⌝ }
+    ensures { λ r. ⌜ r .dmin ≡ ifDone (r .answer) (dmin (now (rows .entry))) 0 ⌝ }
+{
+    let m = measured_cause(
+        n,
+        k,
+        rows,
+        reading,
+        words,
+        out.len(),
+        counts.len(),
+        work.len(),
+    );
+    let a = m.answer;
+    let Answer::Done = a else {
+        return m;
+    };
+    let b = decode_passed(n, k, rows, reading, words, out, counts, work);
+    let Answer::Done = b else {
+        return unmeasured(b);
+    };
+    Measured {
+        answer: b,
+        dmin: m.dmin,
     }
-    decode_words(&checks, reading, words, &work[..size], out, counts);
-    Answer::Done
 }

@@ -6,11 +6,13 @@ use linear::answer::Refusal;
 use linear::encode::list_cause;
 use weights::weights::weights_of;
 ghost use mathlib.Core.Path.{_≡_};
-ghost use Prim.Native.Nat.{min};
+ghost use Prim.Native.Nat.{min, _≤_};
 ghost use lib.ListN.{length};
 ghost use Rattle.coding.specs.Weight.{dmin};
+ghost use Rattle.linear.specs.Limits.{InRange};
+ghost use Rattle.linear.specs.Refusal.{ifDone};
 ghost use Rattle.linear.specs.Accepted.{Accepted};
-ghost use Rattle.decoder.specs.Causes.{radiusAnswer, batchAnswer};
+ghost use Rattle.decoder.specs.Causes.{radiusAnswer, listsAnswer, batchAnswer};
 
 fn smaller(a: usize, b: usize) -> usize
     ensures { λ r. ⌜ r ≡ min a b ⌝ }
@@ -18,23 +20,50 @@ fn smaller(a: usize, b: usize) -> usize
     if a < b { a } else { b }
 }
 
-// Cause 5, within a radius only. Half of dmin - 1 is compared, so that no radius overflows.
-fn radius_cause(n: u32, k: u32, rows: &[u32], reading: Reading) -> Answer
-    requires { ⌜ Accepted n k (now rows) ⌝ }
-    ensures { λ r. ⌜ r ≡ radiusAnswer reading (dmin (now (rows .entry))) ⌝ }
+// Cause 5, by the minimum distance. Half of dmin - 1 is compared, so that no radius overflows.
+fn radius_test(reading: Reading, d: u32) -> Answer
+    requires { ⌜ 1 ≤ d ⌝ }
+    ensures { λ r. ⌜ r ≡ radiusAnswer reading d ⌝ }
 {
     let Reading::Within(radius) = reading else {
         return Answer::Done;
     };
-    let w = weights_of(n, k, rows);
-    let d = w.dmin;
     if (d - 1) / 2 < radius {
         return Answer::Refused(Refusal::RadiusTooLarge);
     }
     Answer::Done
 }
 
-// Causes 1 to 9, for lists of so many slots, bytes and working entries.
+// Cause 5; the codewords are walked within a radius only.
+fn radius_cause(n: u32, k: u32, rows: &[u32], reading: Reading) -> Answer
+    requires { ⌜ Accepted n k (now rows) ⌝ }
+    ensures { λ r. ⌜ r ≡ radiusAnswer reading (dmin (now (rows .entry))) ⌝ }
+{
+    let Reading::Within(_) = reading else {
+        return Answer::Done;
+    };
+    let w = weights_of(n, k, rows);
+    radius_test(reading, w.dmin)
+}
+
+// Causes 6 to 9, for lists of so many slots, bytes and working entries.
+fn lists_cause(n: u32, k: u32, words: &[u32], slots: usize, bytes: usize, room: usize) -> Answer
+    requires { ⌜ InRange n k ⌝ }
+    ensures { λ r. ⌜ r ≡ listsAnswer n k (now (words .entry)) slots bytes room ⌝ }
+{
+    let least = smaller(slots, bytes);
+    let a = list_cause(words, n, least);
+    let Answer::Done = a else {
+        return a;
+    };
+    let size = 1usize << (n - k);
+    if room < size {
+        return Answer::Refused(Refusal::ShortWork);
+    }
+    Answer::Done
+}
+
+// Causes 1 to 9.
 pub fn batch_cause(
     n: u32,
     k: u32,
@@ -55,14 +84,48 @@ pub fn batch_cause(
     let Answer::Done = b else {
         return b;
     };
-    let least = smaller(slots, bytes);
-    let c = list_cause(words, n, least);
-    let Answer::Done = c else {
-        return c;
+    lists_cause(n, k, words, slots, bytes, room)
+}
+
+// An answer with the minimum distance beside it, 0 on a refusal.
+pub struct Measured {
+    pub answer: Answer,
+    pub dmin: u32,
+}
+
+pub(crate) fn unmeasured(answer: Answer) -> Measured
+    ensures { λ r. ⌜ (r .answer ≡ answer) × (r .dmin ≡ 0) ⌝ }
+{
+    Measured { answer, dmin: 0 }
+}
+
+// Causes 1 to 9 and the minimum distance, from one walk over the codewords.
+pub fn measured_cause(
+    n: u32,
+    k: u32,
+    rows: &[u32],
+    reading: Reading,
+    words: &[u32],
+    slots: usize,
+    bytes: usize,
+    room: usize,
+) -> Measured
+    ensures { λ r. ⌜ r .answer ≡ batchAnswer n k (now (rows .entry)) reading (now (words .entry)) slots bytes room ⌝ }
+    ensures { λ r. ⌜ r .dmin ≡ ifDone (r .answer) (dmin (now (rows .entry))) 0 ⌝ }
+{
+    let w = weights_of(n, k, rows);
+    let a = w.answer;
+    let Answer::Done = a else {
+        return unmeasured(a);
     };
-    let size = 1usize << (n - k);
-    if room < size {
-        return Answer::Refused(Refusal::ShortWork);
-    }
-    Answer::Done
+    let d = w.dmin;
+    let b = radius_test(reading, d);
+    let Answer::Done = b else {
+        return unmeasured(b);
+    };
+    let c = lists_cause(n, k, words, slots, bytes, room);
+    let Answer::Done = c else {
+        return unmeasured(c);
+    };
+    Measured { answer: c, dmin: d }
 }

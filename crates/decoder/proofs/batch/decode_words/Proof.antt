@@ -1,5 +1,5 @@
 -- `decoder::batch::decode_words`: the first i slots are answered, the others are as they were. Assumes nothing.
-use mathlib.Core.Path.{_≡_, sym, ap, ap₂, _∙_}
+use mathlib.Core.Path.{_≡_, sym, ap, _∙_}
 use mathlib.Core.List.{List, map, _++_}
 use Prim.Native.Nat.{ℕ, _≤_, _<_, _-_}
 use lib.ListN.{length, getD, drop, set, length-set, length-map}

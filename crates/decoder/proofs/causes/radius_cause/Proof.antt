@@ -1,19 +1,19 @@
--- `decoder::causes::radius_cause`: half of dmin - 1 is below the radius exactly when 2 r + 1 is above dmin. Assumes nothing.
-use mathlib.Core.Path.{_≡_, sym, ap, _∙_}
+-- `decoder::causes::radius_cause`: the minimum distance is that of the walk. Assumes nothing.
+use mathlib.Core.Path.{_≡_, ap, _∙_}
+use Prim.Native.Nat.{_≤_}
 use Rattle.coding.specs.Weight.{dmin}
-use Rattle.linear.specs.declared.answer.Answer.the-variants.{Done}
 use Rattle.linear.proofs.AcceptLaws.{in-accepted}
 use Rattle.decoder.specs.Causes.{radiusAnswer}
-use Rattle.decoder.proofs.CauseLaws.{radius-large, radius-fits}
+use Rattle.decoder.proofs.CauseLaws.{measured-is}
 use borrow.Author.Needs.{needs}
 use Rattle.decoder.proofs.causes.radius_cause.Statement.{statement}
 use Rattle.decoder.proofs.causes.radius_cause.Tie as tie
 
-enum-known-reading : tie.Need-enum-known-reading
-enum-known-reading c = search needs
-
 enum-told : tie.Need-enum-told
 enum-told c = search needs
+
+enum-told-2 : tie.Need-enum-told-2
+enum-told-2 c = search needs
 
 returns : tie.Need-returns
 returns c = search needs
@@ -21,30 +21,18 @@ returns c = search needs
 weights-of-requires : tie.Need-weights-of-requires
 weights-of-requires c κs = search needs
 
-sub-if1 : tie.Need-sub-if1
-sub-if1 c =
-    let s = c .before .before .before .before .before in
-    let W = c .weights-of in
-    let d : W .result .answer ≡ Done = W .ensures .answer ∙ in-accepted (s .args .n) (s .args .k) (s .args .rows .now) (s .pre) in
-    rw (rw d at (W .ensures .dmin-is)) (W .ensures .distance d .bounds .0)
+measured : (c : tie.After-weights-of) → (c .weights-of .result .dmin ≡ dmin (c .before .before .before .before .args .rows .now)) × (1 ≤ c .weights-of .result .dmin)
+measured c =
+    let s = c .before .before .before .before in
+    measured-is (c .weights-of .ensures) (c .weights-of .ensures .answer ∙ in-accepted (s .args .n) (s .args .k) (s .args .rows .now) (s .pre))
+
+radius-test-requires : tie.Need-radius-test-requires
+radius-test-requires c κs = measured c .1
 
 returns-2 : tie.Need-returns-2
-returns-2 c =
-    let W = c .before .weights-of in
-    let s = c .before .before .before .before .before .before in
-    let d : W .result .answer ≡ Done = W .ensures .answer ∙ in-accepted (s .args .n) (s .args .k) (s .args .rows .now) (s .pre) in
-    let e : W .result .dmin ≡ dmin (s .args .rows .now) = rw d at (W .ensures .dmin-is) in
-    rw (c .before .before .before .reading .given .1) (radius-large _ (dmin (s .args .rows .now)) (W .ensures .distance d .bounds .0) (rw e at (c .if1 .taken)))
-
-returns-3 : tie.Need-returns-3
-returns-3 c =
-    let W = c .before .weights-of in
-    let s = c .before .before .before .before .before .before in
-    let d : W .result .answer ≡ Done = W .ensures .answer ∙ in-accepted (s .args .n) (s .args .k) (s .args .rows .now) (s .pre) in
-    let e : W .result .dmin ≡ dmin (s .args .rows .now) = rw d at (W .ensures .dmin-is) in
-    rw (c .before .before .before .reading .given .1) (radius-fits _ (dmin (s .args .rows .now)) (W .ensures .distance d .bounds .0) (rw e at (c .if1 .left)))
+returns-2 c = c .radius-test .ensures ∙ ap (radiusAnswer (c .before .before .before .before .before .args .reading)) (measured (c .before) .0)
 
 pub radius-cause-spec : {M : Type 1} → statement M
 radius-cause-spec =
     tie.close
-    (tie.spec enum-known-reading enum-told returns weights-of-requires sub-if1 returns-2 returns-3)
+    (tie.spec enum-told enum-told-2 returns weights-of-requires radius-test-requires returns-2)

@@ -1,0 +1,99 @@
+-- Laws of the reading: what a field that was read leaves known, and one step of the recursion over fields. Assumes nothing.
+use mathlib.Core.Path.{_≡_, refl, sym, _∙_}
+use mathlib.Core.Bool.{Bool, true, false}
+use mathlib.Core.List.{List}
+use Prim.Native.Nat.{ℕ, zero, suc, _+_, _-_, _≤_, _<_}
+use native.Mathlib.Decide.{decLe}
+use native.Mathlib.Omega.{arith}
+use borrow.Author.Tests.{ltb-false, leb-false, lt-ltb, le-ltb}
+use lib.Dec.{ltb, leb}
+use lib.ListN.{length, getD, set}
+use Rattle.coding.specs.Lists.{pick}
+use Rattle.sheet.specs.Field.{maxTag, contentOf, sizeAt, gotten, fieldAt}
+use Rattle.sheet.specs.Sheet.{sheetIn, sheetFrom}
+use Rattle.sheet.specs.declared.answer.Fault.{Fault}
+use Rattle.sheet.specs.declared.answer.Fault.the-variants.{Layout, Tag}
+use Rattle.sheet.specs.declared.answer.SheetAnswer.the-variants.{Refused}
+use Rattle.sheet.specs.declared.field.Content.{Content}
+use Rattle.sheet.specs.declared.field.Content.the-variants.{Absent, Byte, Words}
+use Rattle.sheet.specs.declared.field.Field.{Field}
+use Rattle.sheet.specs.declared.field.Field.the-variants.{Got, Bad}
+
+-- ---- a field that was read
+
+past : (b : Bool) (c : Fault) (rest : Field) (t : ℕ) (x : Content) (z : ℕ) → pick b (Bad c) rest ≡ Got t x z → (b ≡ false) × (rest ≡ Got t x z)
+past true c rest t x z e = let w : _≡_ {A = ℕ} 0 1 = cc in absurd (omega arith)
+past false c rest t x z e = (refl, e)
+
+gotten-is : (y : Content) (at tag next t : ℕ) (x : Content) (z : ℕ) → gotten y at tag next ≡ Got t x z → (tag ≡ t) × (y ≡ x) × (next ≡ z)
+gotten-is Absent at tag next t x z e = let w : _≡_ {A = ℕ} 0 1 = cc in absurd (omega arith)
+gotten-is (Byte b) at tag next t x z e = (cc, cc, cc)
+gotten-is (Words span) at tag next t x z e = (cc, cc, cc)
+
+-- its tag is new and known, it ends within the sheet, and its content is that of its bytes
+pub record Good (s : List ℕ) (at last tag : ℕ) (content : Content) (next : ℕ) : Type 0 where
+  pub known : tag ≤ maxTag
+  pub new : last < tag
+  pub longer : at + 3 ≤ next
+  pub within : next ≤ length s
+  pub content-is : contentOf s tag (at + 3) (next - (at + 3)) ≡ content
+
+pub good : (s : List ℕ) (at last tag : ℕ) (content : Content) (next : ℕ) → at ≤ length s → fieldAt s at last ≡ Got tag content next
+    → Good s at last tag content next
+unfolding fieldAt
+good s at last t x z h e =
+    let e1 = past (ltb (length s - at) 3) (Layout at) _ t x z e in
+    let e2 = past (ltb maxTag (getD s at 0)) (Tag at) _ t x z (e1 .1) in
+    let e3 = past (leb (getD s at 0) last) (Tag at) _ t x z (e2 .1) in
+    let e4 = past (ltb (length s - at - 3) (sizeAt s at)) (Layout at) _ t x z (e3 .1) in
+    let e5 = gotten-is (contentOf s (getD s at 0) (at + 3) (sizeAt s at)) at (getD s at 0) (at + 3 + sizeAt s at) t x z (e4 .1) in
+    let n1 = ltb-false (length s - at) 3 (e1 .0) in
+    let n2 = ltb-false maxTag (getD s at 0) (e2 .0) in
+    let n3 = leb-false (getD s at 0) last (e3 .0) in
+    let n4 = ltb-false (length s - at - 3) (sizeAt s at) (e4 .0) in
+    let long : z - (at + 3) ≡ sizeAt s at = omega (arith, e5 .2) in
+    record {
+      known = omega (arith, n2, e5 .0);
+      new = omega (arith, n3, e5 .0);
+      longer = omega (arith, e5 .2);
+      within = omega (arith, n1, n4, e5 .2);
+      content-is = rw (long, ← e5 .0) (e5 .1);
+    }
+
+-- ---- one step
+
+pub reads-on : (d : ℕ) (s : List ℕ) (at last : ℕ) (contents : List Content) (tag : ℕ) (content : Content) (next : ℕ) → 0 < d → at < length s
+    → fieldAt s at last ≡ Got tag content next
+    → (k : ℕ) × (d ≡ suc k) × (sheetFrom d s at last contents ≡ sheetFrom k s next tag (set contents tag content))
+unfolding sheetFrom
+reads-on zero s at last contents tag content next p h e = absurd (omega arith)
+reads-on (suc d) s at last contents tag content next p h e = (d, refl, rw (lt-ltb at (length s) h, e))
+
+pub stops-at : (d : ℕ) (s : List ℕ) (at last : ℕ) (contents : List Content) (c : Fault) → 0 < d → at < length s → fieldAt s at last ≡ Bad c
+    → sheetFrom d s at last contents ≡ Refused c
+unfolding sheetFrom
+stops-at zero s at last contents c p h e = absurd (omega arith)
+stops-at (suc d) s at last contents c p h e = rw (lt-ltb at (length s) h, e)
+
+pub at-end : (d : ℕ) (s : List ℕ) (at last : ℕ) (contents : List Content) → length s ≤ at → sheetFrom d s at last contents ≡ sheetIn contents (length s)
+unfolding sheetFrom
+at-end zero s at last contents h = refl
+at-end (suc d) s at last contents h = rw (le-ltb at (length s) h)
+
+-- enough steps are enough: with a step for each byte left, more of them change nothing
+pub enough-steps : (d e : ℕ) (s : List ℕ) (at last : ℕ) (contents : List Content) → length s ≤ d + at → length s ≤ e + at
+    → sheetFrom d s at last contents ≡ sheetFrom e s at last contents
+unfolding sheetFrom
+enough-steps zero e s at last contents h k = sym (at-end e s at last contents (omega arith))
+enough-steps (suc d) zero s at last contents h k = at-end (suc d) s at last contents (omega arith)
+enough-steps (suc d) (suc e) s at last contents h k =
+    go (decLe (length s) at) (fieldAt s at last) refl (λ next tag contents l. enough-steps d e s next tag contents (omega arith) (omega arith))
+  where
+    go : Dec (length s ≤ at) → (f : Field) → fieldAt s at last ≡ f
+        → ((next tag : ℕ) (contents : List Content) → at < next → sheetFrom d s next tag contents ≡ sheetFrom e s next tag contents)
+        → sheetFrom (suc d) s at last contents ≡ sheetFrom (suc e) s at last contents
+    go (yes l) f g rec = at-end (suc d) s at last contents l ∙ sym (at-end (suc e) s at last contents l)
+    go (no l) (Bad c) g rec = stops-at (suc d) s at last contents c (omega arith) (omega arith) g ∙ sym (stops-at (suc e) s at last contents c (omega arith) (omega arith) g)
+    go (no l) (Got tag content next) g rec =
+        let G = good s at last tag content next (omega arith) g in
+        rw (lt-ltb at (length s) (omega arith), g) (rec next tag (set contents tag content) (omega (arith, G .longer)))

@@ -1,0 +1,45 @@
+-- `vectors_sheet::read_part` is safe and ends; the count lies within the buffer. Assumes nothing.
+use mathlib.Core.List.{List, _++_}
+use Prim.Native.Nat.{ℕ, _≤_}
+use native.Mathlib.Omega.{arith}
+use lib.ListN.{length, length-append}
+use Rattle.io.specs.Counts.{Counts}
+use mathlib.Core.Path.{sym}
+use lib.Seq.{length-take-le}
+use borrow.Author.Needs.{needs}
+use Rattle.vectors_sheet.proofs.read_part.Statement.{statement}
+use Rattle.vectors_sheet.proofs.read_part.Tie as tie
+
+longer : (r : ℕ) (front rest : List ℕ) → r ≤ length front → Counts r (front ++ rest)
+longer r front rest h =
+    let k : r ≤ length (front ++ rest) = omega (arith, length-append front rest) in
+    (k, sym (length-take-le r (front ++ rest) k))
+
+returns : tie.Need-returns
+returns c = search needs
+
+slice-relend-prefix-read-full : tie.Need-slice-relend-prefix-read-full
+slice-relend-prefix-read-full c = search needs
+
+slice-aggregate-read-full : tie.Need-slice-aggregate-read-full
+slice-aggregate-read-full c = sym (length-take-le _ _ (c .before .if1 .left))
+
+read-full-requires : tie.Need-read-full-requires
+read-full-requires c κs = search needs
+
+same-length : tie.Need-same-length
+same-length c = search needs
+
+returns-2 : tie.Need-returns-2
+returns-2 c = longer (c .before .before .read-full .result) (c .before .before .read-full .last .1 .0) _ (c .before .before .read-full .ensures .0)
+
+pub read-part-spec : {M : Type 1} → statement M
+read-part-spec =
+    tie.close
+    (tie.spec
+    returns
+    slice-relend-prefix-read-full
+    slice-aggregate-read-full
+    read-full-requires
+    same-length
+    returns-2)
