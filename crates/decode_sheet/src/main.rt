@@ -3,8 +3,8 @@ use libc::STDERR_FILENO;
 use libc::STDIN_FILENO;
 use libc::STDOUT_FILENO;
 use sheet::read::MAX_SHEET;
-use sheet::run::MAX_OUTPUT;
-use sheet::run::run;
+use sheet_run::run::MAX_OUTPUT;
+use sheet_run::run::run;
 
 fn complain(text: &[u8]) {
     io::write_all(STDERR_FILENO, b"decode_sheet: ");

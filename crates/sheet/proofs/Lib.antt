@@ -1,9 +1,3 @@
 pub mod ContentLaws
 pub mod FieldLaws
-pub mod AppendLaws
-pub mod DecimalLaws
-pub mod WordsLaws
-pub mod LineLaws
-pub mod BatchLaws
-pub mod CutLaws
-pub mod RunLaws
+pub mod PlacedLaws

@@ -1,9 +1,3 @@
 pub mod Fault
 pub mod Field
 pub mod Sheet
-pub mod Words
-pub mod Decimal
-pub mod Output
-pub mod Appended
-pub mod Slots
-pub mod Run

@@ -1,0 +1,66 @@
+-- Laws of writers: one byte, one writer after another, and a list that is written from its first slot on. Assumes nothing.
+use mathlib.Core.Path.{_≡_, refl, sym, ap, ap₂, _∙_}
+use mathlib.Core.List.{List, [], _∷_, _++_, append-assoc, append-nil}
+use Prim.Native.Nat.{ℕ, _+_, _≤_}
+use native.Mathlib.Nat.{add-zero}
+use native.Mathlib.Omega.{arith}
+use lib.ListN.{length, take, drop, set, length-append, length-drop, take-append-drop}
+use lib.Seq.{sets-eq, length-take-le, drop-drop, take-at, drop-at}
+use Rattle.sheet_run.specs.Appended.{Appends}
+
+module _ {before : List ℕ} {at : ℕ} {bytes after : List ℕ} {next : ℕ} (A : Appends before at bytes after next) where
+  front : length (take at before ++ bytes) ≡ next
+  front = length-append (take at before) bytes ∙ omega (arith, length-take-le at before (omega (arith, A .fits)), A .ends)
+
+  split : after ≡ take at before ++ bytes ++ drop next before
+  split = A .list ∙ ap (λ (m : ℕ). take at before ++ bytes ++ drop m before) (sym (A .ends))
+
+  -- the list is as long as it was
+  pub appends-length : length after ≡ length before
+  appends-length =
+      ap length split ∙ length-append (take at before ++ bytes) (drop next before) ∙ omega (arith, front, length-drop next before, A .fits, A .ends)
+
+  pub appends-end : next ≤ length after
+  appends-end = omega (arith, A .ends, A .fits, appends-length)
+
+  -- the next writer's bytes come after
+  pub then : {more last : List ℕ} {end : ℕ} → Appends after next more last end → Appends before at (bytes ++ more) last end
+  then {more} {last} {end} B =
+      let t : take next after ≡ take at before ++ bytes = ap (take next) split ∙ take-at (take at before ++ bytes) (drop next before) next front in
+      let n : next + length more ≡ at + length (bytes ++ more) = omega (arith, length-append bytes more, A .ends) in
+      let d : drop (next + length more) after ≡ drop (at + length (bytes ++ more)) before
+      = sym (drop-drop (length more) next after)
+      ∙ ap (drop (length more)) (ap (drop next) split ∙ drop-at (take at before ++ bytes) (drop next before) next front)
+      ∙ drop-drop (length more) next before ∙ ap (λ (m : ℕ). drop m before) n in
+      record {
+        fits = omega (arith, n, B .fits, appends-length);
+        list =
+            B .list
+            ∙ ap₂ (λ (x y : List ℕ). x ++ more ++ y) t d
+            ∙ ap (λ (x : List ℕ). x ++ drop (at + length (bytes ++ more)) before) (append-assoc (take at before) bytes more);
+        ends = omega (arith, n, B .ends);
+      }
+
+-- the bytes by another name
+pub appends-as : {before : List ℕ} {at : ℕ} {bytes after : List ℕ} {next : ℕ} → Appends before at bytes after next → (named : List ℕ) → bytes ≡ named
+    → Appends before at named after next
+appends-as A named e = rw e at A
+
+-- one byte
+pub appends-one : (before : List ℕ) (at b : ℕ) → at + 1 ≤ length before → Appends before at (b ∷ []) (set before at b) (at + 1)
+appends-one before at b h = record { fits = h; list = sets-eq (b ∷ []) before at h; ends = refl }
+
+-- one byte after others
+pub appends-more : {before : List ℕ} {at : ℕ} {bytes after : List ℕ} (i b : ℕ) → Appends before at bytes after (at + i) → at + i + 1 ≤ length after
+    → Appends before at (bytes ++ b ∷ []) (set after (at + i) b) (at + (i + 1))
+appends-more {at = at} {after = after} i b A h =
+    let e : at + i + 1 ≡ at + (i + 1) = omega arith in
+    rw e at (then A (appends-one after (at + i) b h))
+
+-- no byte
+pub appends-none : (before : List ℕ) (at : ℕ) → at ≤ length before → Appends before at [] before at
+appends-none before at h = record {
+  fits = omega arith;
+  list = sym (take-append-drop at before) ∙ ap₂ (λ (x : List ℕ) (m : ℕ). x ++ drop m before) (sym (append-nil (take at before))) (sym (add-zero at));
+  ends = omega arith;
+}

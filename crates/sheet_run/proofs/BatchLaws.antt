@@ -1,0 +1,119 @@
+-- Laws of a batch: the lines by the slots of Decode's lists are those of the outcomes, and a list that is cut behind what a batch may
+-- have is refused alike. Assumes nothing.
+use mathlib.Core.Path.{_≡_, refl, sym, ap, ap₂, _∙_}
+use mathlib.Core.Bool.{Bool, true, false}
+use mathlib.Core.List.{List, [], _∷_, _++_, map}
+use Prim.Native.Nat.{ℕ, _^_, _≤_, _<_}
+use native.Mathlib.Decide.{ℕ-discrete}
+use native.Mathlib.Omega.{arith}
+use borrow.Author.Tests.{eq-eqb, ne-eqb}
+use lib.ListN.{length, take, length-map, length-take, length-replicate}
+use lib.Seq.{take-at}
+use Rattle.coding.specs.Lists.{blank as zeros}
+use Rattle.coding.specs.Word.{_⊕_, weight}
+use Rattle.coding.specs.Weight.{dmin}
+use Rattle.coding.specs.Leader.{syndromeOf, leaderOf}
+use Rattle.linear.specs.Limits.{maxWords, maxChecks}
+use Rattle.linear.specs.Refusal.{numberOf, valueOf}
+use Rattle.linear.specs.Accepted.{Accepted}
+use Rattle.linear.specs.declared.answer.Refusal.{Refusal}
+use Rattle.linear.specs.declared.answer.Answer.{Answer}
+use Rattle.linear.specs.declared.answer.Answer.the-variants.{Done, Refused}
+use Rattle.linear.proofs.AcceptLaws.{andThen-done, accepted-in}
+use Rattle.weights.proofs.DescribeLaws.{distance-is}
+use Rattle.decoder.specs.Outcome.{takes, outcomeOf, wordIn, countIn}
+use Rattle.decoder.specs.Causes.{batchAnswer, leaderAnswer, decodeAnswer}
+use Rattle.decoder.specs.Decoded.{decodedAs, wordOf, countOf, Decoded}
+use Rattle.decoder.specs.declared.outcomes.Reading.{Reading}
+use Rattle.decoder.specs.declared.outcomes.Outcome.{Outcome}
+use Rattle.decoder.specs.declared.outcomes.Outcome.the-variants.{Clean, Mended, Far}
+use Rattle.decoder.proofs.CauseLaws.{Passed, batch-in}
+use Rattle.decoder.proofs.DecodedLaws.{leader-weight}
+use Rattle.sheet_run.specs.Output.{ending, wordLine, wordLines, refusedLine, codeLine, linesOf, batchOutput}
+use Rattle.sheet_run.specs.Slots.{slotEnding, slotLine, slotLines}
+
+-- ---- the lines by the slots
+
+-- no count is 255, so that 255 is far
+slot-ending : (reading : Reading) (w e : ℕ) → weight e < 255 → slotEnding (countIn (outcomeOf reading w e)) ≡ ending (outcomeOf reading w e)
+slot-ending reading w e h = go (ℕ-discrete (weight e) 0) (takes reading (weight e)) refl
+  where
+    go : Dec (weight e ≡ 0) → (b : Bool) → takes reading (weight e) ≡ b → slotEnding (countIn (outcomeOf reading w e)) ≡ ending (outcomeOf reading w e)
+    go (yes z) b q =
+        let c : outcomeOf reading w e ≡ Clean w = simp (eq-eqb (weight e) 0 z) in
+        ap (λ (o : Outcome). slotEnding (countIn o)) c ∙ sym (ap ending c)
+    go (no n) true q =
+        let c : outcomeOf reading w e ≡ Mended (w ⊕ e) (weight e) = simp (ne-eqb (weight e) 0 n, q) in
+        ap (λ (o : Outcome). slotEnding (countIn o)) c ∙ (simp (ne-eqb (weight e) 255 (λ k. absurd (omega (arith, k, h))))) ∙ sym (ap ending c)
+    go (no n) false q =
+        let c : outcomeOf reading w e ≡ Far = simp (ne-eqb (weight e) 0 n, q) in
+        ap (λ (o : Outcome). slotEnding (countIn o)) c ∙ sym (ap ending c)
+
+slot-line : (n : ℕ) (reading : Reading) (w e : ℕ) → weight e < 255
+    → slotLine n (wordIn (outcomeOf reading w e) w) (countIn (outcomeOf reading w e)) ≡ wordLine n w (outcomeOf reading w e)
+unfolding slotLine wordLine
+slot-line n reading w e h = rw (slot-ending reading w e h) refl
+
+slot-lines : (n k : ℕ) (rows : List ℕ) → Accepted n k rows → (reading : Reading) (words : List ℕ)
+    → slotLines n (map (wordOf n rows reading) words) (map (countOf n rows reading) words) ≡ wordLines n (decodedAs n rows reading) words
+unfolding slotLines wordLines
+slot-lines n k rows A reading [] = refl
+slot-lines n k rows A reading (w ∷ words) =
+    ap₂ _++_ (slot-line n reading w (leaderOf n rows (syndromeOf n rows w)) (omega (arith, leader-weight n k rows A w, A .range .checks)))
+    (slot-lines n k rows A reading words)
+
+-- ---- what Decode leaves, with lists as long as a batch may have
+
+module _ {n k : ℕ} {rows : List ℕ} {reading : Reading} {words : List ℕ} {r : Answer} {out counts work : List ℕ}
+    (D : Decoded n k rows reading words (zeros maxWords) (zeros maxWords) (zeros (2 ^ maxChecks)) r out counts work) where
+  answer-is : r ≡ decodeAnswer n k rows reading words maxWords maxWords (2 ^ maxChecks)
+  answer-is = rw length-replicate at (D .answer)
+
+  pub refused-output : (c : Refusal) → r ≡ Refused c → refusedLine (numberOf c) (valueOf c) ≡ batchOutput n k rows reading words
+  unfolding batchOutput
+  refused-output c e = ap (λ (a : Answer). linesOf a n k rows reading words) (sym e ∙ answer-is)
+
+  module _ (d : r ≡ Done) where
+    passed : Passed n k rows reading words maxWords maxWords (2 ^ maxChecks)
+    passed =
+        batch-in n k rows reading words maxWords maxWords (2 ^ maxChecks)
+        (andThen-done (batchAnswer n k rows reading words maxWords maxWords (2 ^ maxChecks)) (leaderAnswer n k rows) (sym answer-is ∙ d) .0)
+
+    accepted : Accepted n k rows
+    accepted = accepted-in n k rows (passed .matrix)
+
+    pub few-words : length words ≤ maxWords
+    few-words = passed .listed .few
+
+    pub few-places : n ≤ 32
+    few-places = omega (arith, accepted .range .places)
+
+    pub apart : 1 ≤ dmin rows
+    apart = distance-is n k rows accepted .bounds .0
+
+    codewords-are : take (length words) out ≡ map (wordOf n rows reading) words
+    codewords-are =
+        ap (take (length words)) (rw d at (D .codewords)) ∙ take-at (map (wordOf n rows reading) words) _ (length words) (length-map words (wordOf n rows reading))
+
+    counts-are : take (length words) counts ≡ map (countOf n rows reading) words
+    counts-are =
+        ap (take (length words)) (rw d at (D .distances)) ∙ take-at (map (countOf n rows reading) words) _ (length words) (length-map words (countOf n rows reading))
+
+    pub codewords-length : length (take (length words) out) ≡ length words
+    codewords-length = ap length codewords-are ∙ length-map words (wordOf n rows reading)
+
+    pub counts-length : length (take (length words) counts) ≡ length words
+    counts-length = ap length counts-are ∙ length-map words (countOf n rows reading)
+
+    pub codewords-room : length words ≤ length out
+    codewords-room = omega (arith, codewords-length, length-take (length words) out)
+
+    pub counts-room : length words ≤ length counts
+    counts-room = omega (arith, counts-length, length-take (length words) counts)
+
+    pub done-output : (d′ : ℕ) → d′ ≡ dmin rows
+        → codeLine n k d′ ++ slotLines n (take (length words) out) (take (length words) counts) ≡ batchOutput n k rows reading words
+    unfolding batchOutput
+    done-output d′ e =
+        ap₂ (λ (x : ℕ) (l : List ℕ). codeLine n k x ++ l) e (ap₂ (slotLines n) codewords-are counts-are ∙ slot-lines n k rows accepted reading words)
+        ∙ ap (λ (a : Answer). linesOf a n k rows reading words) (sym d ∙ answer-is)

@@ -1,0 +1,96 @@
+-- Laws of a cut list: more rows than any code has, or more words than a batch may have, are refused alike however many they are.
+-- Assumes nothing.
+use mathlib.Core.Path.{_≡_, refl, sym, ap, _∙_}
+use mathlib.Core.Bool.{Bool, true, false}
+use mathlib.Core.List.{List}
+use Prim.Native.Nat.{ℕ, _^_, _≤_, _<_}
+use native.Mathlib.Decide.{decLe}
+use native.Mathlib.Omega.{arith}
+use borrow.Author.Tests.{ne-eqb, lt-leb}
+use lib.ListN.{length, take}
+use lib.Seq.{take-all, length-take-le}
+use Rattle.coding.specs.Weight.{dmin}
+use Rattle.linear.specs.Limits.{inRange, maxRows, maxWords, maxChecks}
+use Rattle.linear.specs.Refusal.{unless, andThen}
+use Rattle.linear.specs.Accepted.{shapeAnswer, matrixAnswer}
+use Rattle.linear.specs.Encoded.{listAnswer}
+use Rattle.linear.specs.declared.answer.Refusal.{Refusal}
+use Rattle.linear.specs.declared.answer.Refusal.the-variants.{OutOfRange, RowCount, TooManyWords}
+use Rattle.linear.specs.declared.answer.Answer.{Answer}
+use Rattle.linear.specs.declared.answer.Answer.the-variants.{Done, Refused}
+use Rattle.linear.proofs.AcceptLaws.{range-in, shape-refused}
+use Rattle.decoder.specs.Causes.{radiusAnswer, listsAnswer, batchAnswer, leaderAnswer, decodeAnswer}
+use Rattle.decoder.specs.declared.outcomes.Reading.{Reading}
+use Rattle.decoder.proofs.CauseLaws.{at-matrix}
+use Rattle.sheet_run.specs.Output.{linesOf, batchOutput}
+
+-- the number of rows is none that a code has: cause 1 or 2
+shapes : (n k : ℕ) (rows : List ℕ) → maxRows < length rows → shapeAnswer n k rows ≡ unless (inRange n k) OutOfRange (Refused RowCount)
+unfolding shapeAnswer
+shapes n k rows h = go (inRange n k) refl
+  where
+    go : (b : Bool) → inRange n k ≡ b → shapeAnswer n k rows ≡ unless (inRange n k) OutOfRange (Refused RowCount)
+    go true q = let R = range-in n k q in rw (q, ne-eqb (length rows) k (λ e. absurd (omega (arith, e, R .rows)))) refl
+    go false q = rw q refl
+
+unless-refused : (b : Bool) (c d : Refusal) → (e : Refusal) × (unless b c (Refused d) ≡ Refused e)
+unless-refused true c d = (d, refl)
+unless-refused false c d = (c, refl)
+
+module _ (n k : ℕ) (reading : Reading) where
+  abbrev decodes : List ℕ → List ℕ → Answer
+  decodes rows words = decodeAnswer n k rows reading words maxWords maxWords (2 ^ maxChecks)
+
+  abbrev batch : List ℕ → List ℕ → Answer
+  batch rows words = batchAnswer n k rows reading words maxWords maxWords (2 ^ maxChecks)
+
+  refused-batch : (rows words : List ℕ) (c : Refusal) → batch rows words ≡ Refused c → decodes rows words ≡ Refused c
+  refused-batch rows words c e = ap (λ (a : Answer). andThen a (leaderAnswer n k rows)) e
+
+  -- many rows
+  many-rows : (rows words : List ℕ) (c : Refusal) → maxRows < length rows → unless (inRange n k) OutOfRange (Refused RowCount) ≡ Refused c
+      → decodes rows words ≡ Refused c
+  many-rows rows words c h e =
+      refused-batch rows words c
+      (sym (at-matrix n k rows reading words maxWords maxWords (2 ^ maxChecks) c (shape-refused n k rows c (shapes n k rows h ∙ e))))
+
+  -- many words: the causes before, or cause 6
+  abbrev before-words : List ℕ → Answer
+  before-words rows = andThen (matrixAnswer n k rows) (andThen (radiusAnswer reading (dmin rows)) (Refused TooManyWords))
+
+  many-words : (rows words : List ℕ) → maxWords < length words → batch rows words ≡ before-words rows
+  unfolding batchAnswer listsAnswer listAnswer
+  many-words rows words h = rw (lt-leb (length words) maxWords h) refl
+
+  refuses : (a : Answer) (c : Refusal) → (d : Refusal) × (andThen a (Refused c) ≡ Refused d)
+  refuses Done c = (c, refl)
+  refuses (Refused d) c = (d, refl)
+
+  before-refused : (rows : List ℕ) → (d : Refusal) × (before-words rows ≡ Refused d)
+  before-refused rows =
+      let (c, e) = refuses (radiusAnswer reading (dmin rows)) TooManyWords in
+      let (d, g) = refuses (matrixAnswer n k rows) c in
+      (d, ap (andThen (matrixAnswer n k rows)) e ∙ g)
+
+  same-output : (rows words rows′ words′ : List ℕ) (c : Refusal) → decodes rows words ≡ Refused c → decodes rows′ words′ ≡ Refused c
+      → batchOutput n k rows reading words ≡ batchOutput n k rows′ reading words′
+  unfolding batchOutput
+  same-output rows words rows′ words′ c e f =
+      ap (λ (a : Answer). linesOf a n k rows reading words) e ∙ sym (ap (λ (a : Answer). linesOf a n k rows′ reading words′) f)
+
+  -- 33 rows are more than any code has, 513 words more than a batch may have
+  pub cut-output : (rows words : List ℕ) → batchOutput n k (take 33 rows) reading (take 513 words) ≡ batchOutput n k rows reading words
+  cut-output rows words = go (decLe (length rows) 33) (decLe (length words) 513)
+    where
+      go : Dec (length rows ≤ 33) → Dec (length words ≤ 513) → batchOutput n k (take 33 rows) reading (take 513 words) ≡ batchOutput n k rows reading words
+      go (no r) w =
+          let (c, e) = unless-refused (inRange n k) OutOfRange RowCount in
+          let long : length (take 33 rows) ≡ 33 = length-take-le 33 rows (omega arith) in
+          same-output (take 33 rows) (take 513 words) rows words c (many-rows (take 33 rows) (take 513 words) c (omega arith) e) (many-rows rows words c (omega arith) e)
+      go (yes r) (yes w) = rw (take-all 33 rows r, take-all 513 words w) refl
+      go (yes r) (no w) =
+          let (c, e) = before-refused rows in
+          let long : length (take 513 words) ≡ 513 = length-take-le 513 words (omega arith) in
+          rw (take-all 33 rows r)
+          (same-output rows (take 513 words) rows words c (refused-batch rows (take 513 words) c (many-words rows (take 513 words) (omega arith) ∙ e))
+          (refused-batch rows words c (many-words rows words (omega arith) ∙ e)))

@@ -1,0 +1,53 @@
+-- Laws of the lines: the parts that the writers put, one after the other, are the line. Assumes nothing.
+use mathlib.Core.Path.{_≡_, refl, sym, ap, ap₂, _∙_}
+use mathlib.Core.List.{List, [], _∷_, _++_, append-assoc, append-nil}
+use Prim.Native.Nat.{ℕ, zero, suc, _+_, _-_, _/_, _<_}
+use native.Mathlib.Nat.{le-of-suc-le-suc}
+use native.Mathlib.Numerals.{add-one}
+use native.Mathlib.Omega.{arith}
+use lib.ListN.{length, getD, take}
+use lib.Seq.{take-length}
+use Rattle.coding.specs.Word.{bit}
+use Rattle.coding.proofs.CountLaws.{length-tabulate}
+use Rattle.sheet_run.specs.Decimal.{digit, decimal}
+use Rattle.sheet_run.specs.Output.{blank, lineFeed, refusedText, refusedLine, codeLine, digitsOf}
+use Rattle.sheet_run.specs.Slots.{slotEnding, slotLine, slotLines}
+
+pub refused-parts : (number value : ℕ) → (refusedText ++ blank ∷ []) ++ (decimal number ++ blank ∷ []) ++ (decimal value ++ lineFeed ∷ []) ≡ refusedLine number value
+unfolding refusedLine
+refused-parts number value = simp append-assoc
+
+pub code-parts : (n k d : ℕ)
+    → (decimal n ++ blank ∷ []) ++ (decimal k ++ blank ∷ []) ++ (decimal d ++ blank ∷ []) ++ (decimal ((d - 1) / 2) ++ lineFeed ∷ []) ≡ codeLine n k d
+unfolding codeLine
+code-parts n k d = simp append-assoc
+
+pub slot-parts : (n c count : ℕ) → digitsOf n c ++ blank ∷ [] ++ slotEnding count ++ lineFeed ∷ [] ≡ slotLine n c count
+unfolding slotLine
+slot-parts n c count = simp append-assoc
+
+pub length-digits : (n w : ℕ) → length (digitsOf n w) ≡ n
+unfolding digitsOf
+length-digits n w = length-tabulate (λ i. digit (bit w i)) n
+
+-- a line more
+slot-lines-suc : (n i : ℕ) (cs ds : List ℕ) → i < length cs → i < length ds
+    → slotLines n (take i cs) (take i ds) ++ slotLine n (getD cs i 0) (getD ds i 0) ≡ slotLines n (take (suc i) cs) (take (suc i) ds)
+unfolding slotLines
+slot-lines-suc n i [] ds h k = absurd (omega arith)
+slot-lines-suc n i (c ∷ cs) [] h k = absurd (omega arith)
+slot-lines-suc n zero (c ∷ cs) (d ∷ ds) h k = sym (append-nil (slotLine n c d))
+slot-lines-suc n (suc i) (c ∷ cs) (d ∷ ds) h k =
+    append-assoc (slotLine n c d) (slotLines n (take i cs) (take i ds)) (slotLine n (getD cs i 0) (getD ds i 0))
+    ∙ ap (λ (l : List ℕ). slotLine n c d ++ l) (slot-lines-suc n i cs ds (le-of-suc-le-suc h) (le-of-suc-le-suc k))
+
+pub slot-lines-more : (n i : ℕ) (cs ds : List ℕ) → i < length cs → i < length ds
+    → slotLines n (take i cs) (take i ds) ++ slotLine n (getD cs i 0) (getD ds i 0) ≡ slotLines n (take (i + 1) cs) (take (i + 1) ds)
+slot-lines-more n i cs ds h k = rw add-one (slot-lines-suc n i cs ds h k)
+
+pub slot-lines-none : (n : ℕ) (cs ds : List ℕ) → [] ≡ slotLines n (take 0 cs) (take 0 ds)
+unfolding slotLines
+slot-lines-none n cs ds = refl
+
+pub slot-lines-all : (n i : ℕ) (cs ds : List ℕ) → i ≡ length cs → i ≡ length ds → slotLines n (take i cs) (take i ds) ≡ slotLines n cs ds
+slot-lines-all n i cs ds e f = ap₂ (slotLines n) (ap (λ (m : ℕ). take m cs) e ∙ take-length cs) (ap (λ (m : ℕ). take m ds) f ∙ take-length ds)

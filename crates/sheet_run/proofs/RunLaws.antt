@@ -1,0 +1,32 @@
+-- Laws of the run: what a writer from the first slot on leaves. Assumes nothing.
+use mathlib.Core.Path.{_≡_, refl, sym, ap, _∙_}
+use mathlib.Core.List.{List, _++_}
+use Prim.Native.Nat.{ℕ, _+_, _-_, _≤_, _<_}
+use native.Mathlib.Nat.{zero-add}
+use native.Mathlib.Omega.{arith}
+use borrow.Author.Tests.{le-leb, lt-leb}
+use lib.ListN.{length, drop}
+use lib.Seq.{length-take-le}
+use Rattle.sheet_run.specs.Appended.{Appends}
+use Rattle.sheet.specs.Sheet.{sheetOf}
+use Rattle.sheet_run.specs.Output.{printed, outputOf}
+use Rattle.sheet_run.specs.Run.{maxOutput, Ran}
+use Rattle.sheet.specs.declared.answer.SheetAnswer.{SheetAnswer}
+use Rattle.sheet_run.proofs.AppendLaws.{appends-end}
+
+module _ (sheet before : List ℕ) where
+  pub ran : {a : SheetAnswer} {r : ℕ} {after : List ℕ} → maxOutput ≤ length before → a ≡ sheetOf sheet → Appends before 0 (printed sheet a) after r
+      → Ran sheet before r after
+  unfolding outputOf
+  ran {a} {r} {after} h e A =
+      let B : Appends before 0 (outputOf sheet) after r = rw e at A in
+      let l = le-leb maxOutput (length before) h in
+      record {
+        count = rw l (B .ends ∙ zero-add (length (outputOf sheet)));
+        list = rw l (B .list ∙ ap (λ (m : ℕ). outputOf sheet ++ drop m before) (zero-add (length (outputOf sheet))));
+        fits = appends-end B;
+        part = sym (length-take-le r after (appends-end B));
+      }
+
+  pub ran-not : length before < maxOutput → Ran sheet before 0 before
+  ran-not h = let l = lt-leb maxOutput (length before) h in record { count = rw l refl; list = rw l refl; fits = omega arith; part = refl }

@@ -1,0 +1,58 @@
+-- `sheet_run::run::run`: the sheet that was read, or its refusal. Assumes nothing.
+use mathlib.Core.Path.{sym, _∙_}
+use Rattle.sheet.proofs.PlacedLaws.{placed}
+use Rattle.sheet_run.proofs.RunLaws.{ran, ran-not}
+use borrow.Author.Needs.{needs}
+use Rattle.sheet_run.proofs.run.run.Statement.{statement}
+use Rattle.sheet_run.proofs.run.run.Tie as tie
+
+returns : tie.Need-returns
+returns c = ran-not (c .before .before .before .args .sheet .now) (c .before .before .before .args .out .now) (c .if1 .taken)
+
+read-requires : tie.Need-read-requires
+read-requires c κs = search needs
+
+enum-known-a : tie.Need-enum-known-a
+enum-known-a c = search needs
+
+run-sheet-requires : tie.Need-run-sheet-requires
+run-sheet-requires c κs =
+    let P = placed (c .before .before .before .before .before .before .before .before .args .sheet .now) (c .before .before .a .given .0 .0) (sym (c .before .before .before .before .read .ensures) ∙ c .before .before .a .given .1) in
+    (c .before .before .before .before .before .if1 .left, P .0, P .1)
+
+enum-known-a-2 : tie.Need-enum-known-a-2
+enum-known-a-2 c = search needs
+
+put-fault-requires : tie.Need-put-fault-requires
+put-fault-requires c κs = search needs
+
+same-length : tie.Need-same-length
+same-length c = search needs
+
+returns-2 : tie.Need-returns-2
+returns-2 c =
+    let s = c .before .before .before .before .before .before .before .before .before .before .before in
+    ran (s .args .sheet .now) (s .args .out .now) (c .before .before .before .before .before .before .before .before .if1 .left) (sym (c .before .before .before .before .before .a .given .1) ∙ c .before .before .before .before .before .before .before .read .ensures) (c .before .before .run-sheet .ensures)
+
+same-length-2 : tie.Need-same-length-2
+same-length-2 c = search needs
+
+returns-3 : tie.Need-returns-3
+returns-3 c =
+    let s = c .before .before .before .before .before .before .before .before .before .before .before in
+    ran (s .args .sheet .now) (s .args .out .now) (c .before .before .before .before .before .before .before .before .if1 .left) (sym (c .before .before .before .before .before .a2 .given .1) ∙ c .before .before .before .before .before .before .before .read .ensures) (c .before .before .put-fault .ensures)
+
+pub run-spec : {M : Type 1} → statement M
+run-spec =
+    tie.close
+    (tie.spec
+    returns
+    read-requires
+    enum-known-a
+    run-sheet-requires
+    enum-known-a-2
+    put-fault-requires
+    same-length
+    returns-2
+    same-length-2
+    returns-3)

@@ -1,0 +1,6 @@
+pub mod Words
+pub mod Decimal
+pub mod Output
+pub mod Appended
+pub mod Slots
+pub mod Run

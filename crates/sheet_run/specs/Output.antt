@@ -1,0 +1,89 @@
+-- 01, "The code sheet": what the program prints for the bytes of a sheet.
+use mathlib.Core.List.{List, [], _∷_, _++_}
+use Prim.Native.Nat.{ℕ, _-_, _/_, _^_}
+use Rattle.coding.specs.Lists.{tabulate}
+use Rattle.coding.specs.Word.{bit}
+use Rattle.coding.specs.Weight.{dmin}
+use Rattle.linear.specs.Limits.{maxWords, maxChecks}
+use Rattle.linear.specs.Refusal.{numberOf, valueOf}
+use Rattle.linear.specs.declared.answer.Answer.{Answer}
+use Rattle.linear.specs.declared.answer.Answer.the-variants.{Done, Refused}
+use Rattle.decoder.specs.Outcome.{wordIn}
+use Rattle.decoder.specs.Causes.{decodeAnswer}
+use Rattle.decoder.specs.Decoded.{decodedAs}
+use Rattle.decoder.specs.declared.outcomes.Reading.{Reading}
+use Rattle.decoder.specs.declared.outcomes.Outcome.{Outcome}
+use Rattle.decoder.specs.declared.outcomes.Outcome.the-variants.{Clean, Mended, Far}
+use Rattle.sheet.specs.Fault as fault
+use Rattle.sheet.specs.Sheet.{sheetOf}
+use Rattle.sheet_run.specs.Words.{wordsAt}
+use Rattle.sheet_run.specs.Decimal.{digit, decimal}
+use Rattle.sheet.specs.declared.answer.SheetAnswer.{SheetAnswer}
+use Rattle.sheet.specs.declared.answer.SheetAnswer.the-variants as reading
+
+-- ---- characters
+
+abbrev pub blank : ℕ
+blank = 32
+
+abbrev pub lineFeed : ℕ
+lineFeed = 10
+
+-- "far"
+abbrev pub farText : List ℕ
+farText = 102 ∷ 97 ∷ 114 ∷ []
+
+-- "refused"
+abbrev pub refusedText : List ℕ
+refusedText = 114 ∷ 101 ∷ 102 ∷ 117 ∷ 115 ∷ 101 ∷ 100 ∷ []
+
+-- ---- lines
+
+-- "refused", the number and the value beside it
+unfoldable pub refusedLine : ℕ → ℕ → List ℕ
+refusedLine number value = refusedText ++ blank ∷ decimal number ++ blank ∷ decimal value ++ lineFeed ∷ []
+
+-- "n k dmin t" with t = (dmin - 1) / 2 rounded down
+unfoldable pub codeLine : ℕ → ℕ → ℕ → List ℕ
+codeLine n k d = decimal n ++ blank ∷ decimal k ++ blank ∷ decimal d ++ blank ∷ decimal ((d - 1) / 2) ++ lineFeed ∷ []
+
+-- the n digits of a word, place 0 leftmost
+unfoldable pub digitsOf : ℕ → ℕ → List ℕ
+digitsOf n w = tabulate (λ i. digit (bit w i)) n
+
+-- how a word ended: the count, or "far"
+abbrev pub ending : Outcome → List ℕ
+ending (Clean c) = decimal 0
+ending (Mended c count) = decimal count
+ending Far = farText
+
+-- the line of a received word: the digits of the codeword and the count, or the received digits and "far"
+unfoldable pub wordLine : ℕ → ℕ → Outcome → List ℕ
+wordLine n w o = digitsOf n (wordIn o w) ++ blank ∷ ending o ++ lineFeed ∷ []
+
+-- a line for each word
+unfoldable pub wordLines : ℕ → (ℕ → Outcome) → List ℕ → List ℕ
+wordLines n outcome [] = []
+wordLines n outcome (w ∷ words) = wordLine n w (outcome w) ++ wordLines n outcome words
+
+-- ---- the output
+
+-- the lines of a batch, or the one line of a refusal
+abbrev pub linesOf : Answer → ℕ → ℕ → List ℕ → Reading → List ℕ → List ℕ
+linesOf (Refused c) n k rows reading words = refusedLine (numberOf c) (valueOf c)
+linesOf Done n k rows reading words = codeLine n k (dmin rows) ++ wordLines n (decodedAs n rows reading) words
+
+-- the output for a batch; the lists lent to Decode are as long as 01 allows, so that causes 8 and 9 do not arise
+unfoldable pub batchOutput : ℕ → ℕ → List ℕ → Reading → List ℕ → List ℕ
+batchOutput n k rows reading words =
+    linesOf (decodeAnswer n k rows reading words maxWords maxWords (2 ^ maxChecks)) n k rows reading words
+
+-- the output for a sheet that was read, or the one line of a refusal
+abbrev pub printed : List ℕ → SheetAnswer → List ℕ
+printed s (reading.Read h) =
+    batchOutput (h .n) (h .k) (wordsAt s (h .rows .at) (h .rows .count)) (h .reading) (wordsAt s (h .words .at) (h .words .count))
+printed s (reading.Refused f) = refusedLine (fault.numberOf f) (fault.valueOf f)
+
+-- the bytes printed for the bytes of a sheet
+unfoldable pub outputOf : List ℕ → List ℕ
+outputOf s = printed s (sheetOf s)

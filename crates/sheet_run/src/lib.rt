@@ -1,0 +1,4 @@
+// The run: a code sheet is read, decoded and printed; document 01, "The code sheet".
+pub mod load; // the words of four bytes in a sheet
+pub mod print; // the lines of the output
+pub mod run; // the whole run: sheet bytes to output bytes

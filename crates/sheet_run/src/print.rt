@@ -1,0 +1,145 @@
+// The lines of the output. Each writer puts its bytes from a position on and answers the position after them.
+ghost use mathlib.Core.List.{[], _∷_, _++_};
+ghost use Prim.Native.Nat.{_+_, _*_, _≤_};
+ghost use lib.ListN.{length};
+ghost use mathlib.Core.Path.{_≡_};
+ghost use Rattle.sheet_run.specs.Appended.{Appends};
+ghost use Rattle.sheet_run.specs.Decimal.{decimal};
+ghost use Rattle.sheet_run.specs.Output.{refusedLine, codeLine, digitsOf};
+ghost use Rattle.sheet_run.specs.Slots.{slotEnding, slotLine, slotLines};
+
+const BLANK: u8 = 32;
+
+const LINE_FEED: u8 = 10;
+
+const ZERO: u8 = 48;
+
+fn put(out: &mut [u8], at: usize, b: u8) -> usize
+    requires { ⌜ at + 1 ≤ length (now out) ⌝ }
+    ensures { λ r. ⌜ Appends (now (out .entry)) at (b ∷ []) (now (out .exit)) r ⌝ }
+{
+    out[at] = b;
+    at + 1
+}
+
+fn put_text(out: &mut [u8], at: usize, text: &[u8]) -> usize
+    requires { ⌜ at + length (now text) ≤ length (now out) ⌝ }
+    ensures { λ r. ⌜ Appends (now (out .entry)) at (now (text .entry)) (now (out .exit)) r ⌝ }
+{
+    let mut i: usize = 0;
+    while i < text.len() {
+        out[at + i] = text[i];
+        i += 1;
+    }
+    at + i
+}
+
+// The digits of a number below 10 or of its tenth, then the last one. The compiler divides by 10 without a division.
+fn put_decimal(out: &mut [u8], at: usize, x: usize) -> usize
+    requires { ⌜ at + length (decimal x) ≤ length (now out) ⌝ }
+    ensures { λ r. ⌜ Appends (now (out .entry)) at (decimal x) (now (out .exit)) r ⌝ }
+{
+    if x < 10 {
+        return put(out, at, ZERO + x as u8);
+    }
+    let next = put_decimal(out, at, x / 10);
+    put(out, next, ZERO + (x % 10) as u8)
+}
+
+// A number and the character after it.
+fn put_number(out: &mut [u8], at: usize, x: usize, after: u8) -> usize
+    requires { ⌜ at + 21 ≤ length (now out) ⌝ }
+    ensures { λ r. ⌜ Appends (now (out .entry)) at (decimal x ++ (after ∷ [])) (now (out .exit)) r ⌝ }
+    ensures { λ r. ⌜ r ≤ at + 21 ⌝ }
+{
+    let next = put_decimal(out, at, x);
+    put(out, next, after)
+}
+
+// The one line of a refusal.
+pub(crate) fn put_refusal(out: &mut [u8], number: u32, value: usize) -> usize
+    requires { ⌜ 50 ≤ length (now out) ⌝ }
+    ensures { λ r. ⌜ Appends (now (out .entry)) 0 (refusedLine number value) (now (out .exit)) r ⌝ }
+{
+    let a = put_text(out, 0, b"refused ");
+    let b = put_number(out, a, number as usize, BLANK);
+    put_number(out, b, value, LINE_FEED)
+}
+
+// n, k, dmin and t.
+fn put_code(out: &mut [u8], n: u32, k: u32, d: u32) -> usize
+    requires { ⌜ (84 ≤ length (now out)) × (1 ≤ d) ⌝ }
+    ensures { λ r. ⌜ Appends (now (out .entry)) 0 (codeLine n k d) (now (out .exit)) r ⌝ }
+    ensures { λ r. ⌜ r ≤ 84 ⌝ }
+{
+    let a = put_number(out, 0, n as usize, BLANK);
+    let b = put_number(out, a, k as usize, BLANK);
+    let c = put_number(out, b, d as usize, BLANK);
+    put_number(out, c, ((d - 1) / 2) as usize, LINE_FEED)
+}
+
+// The n digits of a word, place 0 leftmost.
+fn put_digits(out: &mut [u8], at: usize, n: u32, w: u32) -> usize
+    requires { ⌜ (n ≤ 32) × (at + n ≤ length (now out)) ⌝ }
+    ensures { λ r. ⌜ Appends (now (out .entry)) at (digitsOf n w) (now (out .exit)) r ⌝ }
+{
+    let mut p: usize = 0;
+    while p < n as usize {
+        out[at + p] = ZERO + ((w >> p) % 2) as u8;
+        p += 1;
+    }
+    at + p
+}
+
+// The count, or "far".
+fn put_ending(out: &mut [u8], at: usize, count: u8) -> usize
+    requires { ⌜ at + 3 ≤ length (now out) ⌝ }
+    ensures { λ r. ⌜ Appends (now (out .entry)) at (slotEnding count) (now (out .exit)) r ⌝ }
+    ensures { λ r. ⌜ r ≤ at + 3 ⌝ }
+{
+    if count == 255 {
+        return put_text(out, at, b"far");
+    }
+    put_decimal(out, at, count as usize)
+}
+
+fn put_line(out: &mut [u8], at: usize, n: u32, c: u32, count: u8) -> usize
+    requires { ⌜ (n ≤ 32) × (at + 37 ≤ length (now out)) ⌝ }
+    ensures { λ r. ⌜ Appends (now (out .entry)) at (slotLine n c count) (now (out .exit)) r ⌝ }
+    ensures { λ r. ⌜ r ≤ at + 37 ⌝ }
+{
+    let a = put_digits(out, at, n, c);
+    let b = put(out, a, BLANK);
+    let d = put_ending(out, b, count);
+    put(out, d, LINE_FEED)
+}
+
+// A line for each slot of the lists.
+fn put_lines(out: &mut [u8], at: usize, n: u32, codewords: &[u32], counts: &[u8]) -> usize
+    requires { ⌜ (n ≤ 32) × (length (now counts) ≡ length (now codewords)) × (at + 37 * length (now codewords) ≤ length (now out)) ⌝ }
+    ensures { λ r. ⌜ Appends (now (out .entry)) at (slotLines n (now (codewords .entry)) (now (counts .entry))) (now (out .exit)) r ⌝ }
+{
+    let mut next = at;
+    let mut i: usize = 0;
+    while i < codewords.len() {
+        next = put_line(out, next, n, codewords[i], counts[i]);
+        i += 1;
+    }
+    next
+}
+
+// All lines of a batch.
+pub(crate) fn put_batch(
+    out: &mut [u8],
+    n: u32,
+    k: u32,
+    d: u32,
+    codewords: &[u32],
+    counts: &[u8],
+) -> usize
+    requires { ⌜ (n ≤ 32) × (1 ≤ d) × (length (now counts) ≡ length (now codewords)) × (84 + 37 * length (now codewords) ≤ length (now out)) ⌝ }
+    ensures { λ r. ⌜ Appends (now (out .entry)) 0 (codeLine n k d ++ slotLines n (now (codewords .entry)) (now (counts .entry))) (now (out .exit)) r ⌝ }
+{
+    let a = put_code(out, n, k, d);
+    put_lines(out, a, n, codewords, counts)
+}
