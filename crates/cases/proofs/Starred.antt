@@ -13,17 +13,18 @@ use Rattle.coding.specs.Lists.{tabulate}
 use Rattle.coding.specs.Radius.{RadiusRules}
 use Rattle.coding.proofs.WeightLaws.{weight-in}
 use Rattle.coding.specs.Leader.{leaderOf}
-use Rattle.linear.specs.Refusal.{numberOf, valueOf}
-use Rattle.linear.specs.Accepted.{shapeAnswer, matrixAnswer}
-use Rattle.linear.specs.declared.answer.Refusal.the-variants.{Dependent}
-use Rattle.linear.specs.declared.answer.Answer.the-variants.{Done, Refused}
+use Rattle.words.specs.Refusal.{numberOf, valueOf}
+use Rattle.words.specs.Shape.{shapeAnswer}
+use Rattle.linear.specs.Accepted.{matrixAnswer}
+use Rattle.words.specs.declared.answer.Refusal.the-variants.{Dependent}
+use Rattle.words.specs.declared.answer.Answer.the-variants.{Done, Refused}
 use Rattle.cases.specs.Matrices.{seven, five, four}
 use Rattle.decoder.specs.Decoded.{wordOf, countOf}
-use Rattle.decoder.specs.Outcome.{wordIn, countIn}
-use Rattle.decoder.specs.declared.outcomes.Reading.the-variants.{Nearest}
+use Rattle.outcomes.specs.Outcome.{wordIn, countIn}
+use Rattle.outcomes.specs.declared.outcome.Reading.the-variants.{Nearest}
 use Rattle.golay_code.specs.Golay.{golayChecks, golayRows}
 use Rattle.golay_code.proofs.GolayLaws.{golay-accepted}
-use Rattle.golay.specs.Decoded.{decodedTag}
+use Rattle.golay.specs.Decoded.{golayOutcome}
 use Rattle.golay.proofs.AnswerLaws.{golay-rules}
 use Rattle.hsiao.specs.Table.{columns}
 use Rattle.hsiao.specs.Outcome as hsiao
@@ -112,17 +113,17 @@ golay-codeword : Codeword golayRows golayCodeword
 unfolding golayCodeword
 golay-codeword = (3, rw (golay-accepted .count) (lit< tt), sym golay-encoded)
 
-golay-rule : RadiusRules ℕ (Codeword golayRows) distance 8 3 golayReceived (wordIn (decodedTag golayReceived) golayReceived) (countIn (decodedTag golayReceived)) (countIn (decodedTag golayReceived) ≡ 255)
+golay-rule : RadiusRules ℕ (Codeword golayRows) distance 8 3 golayReceived (wordIn (golayOutcome golayReceived) golayReceived) (countIn (golayOutcome golayReceived)) (countIn (golayOutcome golayReceived) ≡ 255)
 unfolding golayReceived
 golay-rule = golay-rules golayReceived (lit< tt)
 
-golay-back : (countIn (decodedTag golayReceived) ≡ 255 → ⊥) × (wordIn (decodedTag golayReceived) golayReceived ≡ golayCodeword)
+golay-back : (countIn (golayOutcome golayReceived) ≡ 255 → ⊥) × (wordIn (golayOutcome golayReceived) golayReceived ≡ golayCodeword)
 golay-back = golay-rule .sent-back golayCodeword golay-codeword (rw golay-three (lit≤ tt))
 
-golay-mended : wordIn (decodedTag golayReceived) golayReceived ≡ golayCodeword
+golay-mended : wordIn (golayOutcome golayReceived) golayReceived ≡ golayCodeword
 golay-mended = golay-back .1
 
-golay-mended-count : countIn (decodedTag golayReceived) ≡ 3
+golay-mended-count : countIn (golayOutcome golayReceived) ≡ 3
 golay-mended-count = golay-rule .counted (golay-back .0) ∙ ap (distance golayReceived) golay-mended ∙ golay-three
 
 -- (72,64): data 1 has check 07; data of 64 ones has check 00

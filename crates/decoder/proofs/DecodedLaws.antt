@@ -32,18 +32,18 @@ use Rattle.coding.proofs.DistanceLaws.{codeword-apart}
 use Rattle.coding.proofs.DecodeLaws.{leader-is, leader-light, near-is, syndromeOf-lt}
 use Rattle.coding.proofs.BuildLaws.{all-more, built, fills-length, fills-same, order-below}
 use Rattle.coding.proofs.RadiusLaws.{one-within, radius-rules}
-use Rattle.linear.specs.Limits.{maxChecks}
+use Rattle.words.specs.Limits.{maxChecks}
 use Rattle.linear.specs.Accepted.{Accepted}
-use Rattle.linear.specs.declared.answer.Answer.the-variants.{Done}
+use Rattle.words.specs.declared.answer.Answer.the-variants.{Done}
 use Rattle.linear.proofs.TableLaws.{frees-are}
-use Rattle.decoder.specs.Outcome.{takes, outcomeOf, wordIn, countIn}
+use Rattle.outcomes.specs.Outcome.{takes, outcomeOf, wordIn, countIn}
 use Rattle.decoder.specs.Built.{columnsOf, BuiltList}
-use Rattle.decoder.specs.Causes.{firstLeaderless, leaderAnswer}
+use Rattle.outcomes.specs.Causes.{firstLeaderless, leaderAnswer}
 use Rattle.decoder.specs.Decoded.{wordBy, countBy, decodedAs, wordOf, countOf}
-use Rattle.decoder.specs.declared.outcomes.Reading.{Reading}
-use Rattle.decoder.specs.declared.outcomes.Reading.the-variants.{Nearest, Within}
-use Rattle.decoder.specs.declared.outcomes.Outcome.{Outcome}
-use Rattle.decoder.specs.declared.outcomes.Outcome.the-variants.{Clean, Mended, Far}
+use Rattle.outcomes.specs.declared.outcome.Reading.{Reading}
+use Rattle.outcomes.specs.declared.outcome.Reading.the-variants.{Nearest, Within}
+use Rattle.outcomes.specs.declared.outcome.Outcome.{Outcome}
+use Rattle.outcomes.specs.declared.outcome.Outcome.the-variants.{Clean, Mended, Far}
 use Rattle.decoder.proofs.TryLaws.{columns-encode, light-word}
 
 -- ---- the outcome of a word w with the leader e

@@ -1,5 +1,4 @@
-pub mod TryLaws
-pub mod CauseLaws
+mod TryLaws
 pub mod DecodedLaws
-pub mod PromiseLaws
-pub mod StepLaws
+mod PromiseLaws
+mod StepLaws

@@ -2,25 +2,22 @@
 use mathlib.Core.Path.{_≡_, refl, sym, ap, _∙_}
 use mathlib.Core.List.{List, _++_, map}
 use Prim.Native.Nat.{ℕ, _-_, _^_, _<_}
-use native.Mathlib.Omega.{arith}
-use lib.Dec.{eqb}
 use lib.ListN.{length, getD, drop, List·getD-append}
 use Rattle.coding.specs.Lists.{tabulate}
 use Rattle.coding.specs.Leader.{leaderOf}
 use Rattle.coding.specs.Weight.{dmin}
 use Rattle.coding.proofs.CountLaws.{length-tabulate, getD-tabulate}
-use Rattle.linear.specs.Refusal.{numberOf, andThen}
 use Rattle.linear.specs.Accepted.{Accepted}
-use Rattle.linear.specs.declared.answer.Refusal.{Refusal}
-use Rattle.linear.specs.declared.answer.Answer.{Answer}
-use Rattle.linear.specs.declared.answer.Answer.the-variants.{Done, Refused}
-use Rattle.linear.proofs.AcceptLaws.{accepted-in, refused-done}
-use Rattle.linear.proofs.ListLaws.{stays, goes, kept, written}
-use Rattle.decoder.specs.Causes.{radiusAnswer, batchAnswer, leaderAnswer}
-use Rattle.decoder.specs.Decoded.{wordOf, countOf, workAfter, Decoded}
-use Rattle.decoder.specs.declared.outcomes.Reading.{Reading}
-use Rattle.decoder.specs.declared.outcomes.Reading.the-variants.{Nearest, Within}
-use Rattle.decoder.proofs.CauseLaws.{Passed, batch-in, batch-early, radius-in}
+use Rattle.words.specs.declared.answer.Refusal.{Refusal}
+use Rattle.words.specs.declared.answer.Answer.{Answer}
+use Rattle.words.specs.declared.answer.Answer.the-variants.{Done, Refused}
+use Rattle.linear.proofs.AcceptLaws.{accepted-in}
+use Rattle.words.proofs.ShapeLaws.{refused-done}
+use Rattle.words.proofs.ListLaws.{stays, goes, kept, written}
+use Rattle.outcomes.specs.Causes.{batchAnswer, leaderAnswer}
+use Rattle.decoder.specs.Decoded.{wordOf, countOf, Decoded}
+use Rattle.outcomes.specs.declared.outcome.Reading.{Reading}
+use Rattle.outcomes.proofs.CauseLaws.{Passed, batch-in, batch-early, radius-in}
 use Rattle.decoder.proofs.DecodedLaws.{leader-at, leader-passes, slot-at, nearest-rule, radius-rule, clean-rule}
 
 module _ (n k : ℕ) (rows : List ℕ) (reading : Reading) (words out counts work : List ℕ) where

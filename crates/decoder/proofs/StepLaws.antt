@@ -11,17 +11,17 @@ use Rattle.coding.specs.Check.{checks, syndrome}
 use Rattle.coding.specs.Leader.{leaderOf}
 use Rattle.coding.proofs.CountLaws.{length-tabulate}
 use Rattle.coding.proofs.MachineLaws.{shl-one}
-use Rattle.linear.specs.Limits.{maxChecks}
+use Rattle.words.specs.Limits.{maxChecks}
 use Rattle.linear.specs.Accepted.{Accepted}
 use Rattle.linear.specs.Checks.{ParityChecks}
-use Rattle.linear.specs.declared.answer.Answer.the-variants.{Done}
+use Rattle.words.specs.declared.answer.Answer.the-variants.{Done}
 use Rattle.linear.specs.declared.check.Checks.{Checks}
 use Rattle.linear.proofs.AcceptLaws.{in-accepted}
 use Rattle.decoder.specs.Built.{BuiltList}
-use Rattle.decoder.specs.Causes.{batchAnswer}
+use Rattle.outcomes.specs.Causes.{batchAnswer}
 use Rattle.decoder.specs.Decoded.{wordBy, countBy, Decoded}
-use Rattle.decoder.specs.declared.outcomes.Reading.{Reading}
-use Rattle.decoder.proofs.CauseLaws.{batch-in}
+use Rattle.outcomes.specs.declared.outcome.Reading.{Reading}
+use Rattle.outcomes.proofs.CauseLaws.{batch-in}
 use Rattle.decoder.proofs.DecodedLaws.{checks-below, leaders-are, none-blank, words-are, counts-are}
 use Rattle.decoder.proofs.PromiseLaws.{past-causes, decode-done}
 

@@ -2,7 +2,6 @@
 use mathlib.Core.Path.{_≡_}
 use mathlib.Core.Logic.{_↔_}
 use mathlib.Core.List.{List, map, _++_}
-use mathlib.Core.Bool.{Bool}
 use Prim.Native.Nat.{ℕ, _-_, _^_, _<_}
 use lib.Dec.{eqb, leb}
 use lib.ListN.{length, getD, drop}
@@ -13,15 +12,15 @@ use Rattle.coding.specs.Check.{syndrome}
 use Rattle.coding.specs.Weight.{dmin}
 use Rattle.coding.specs.Leader.{syndromeOf, lightestBelow, orNoLeader, IsLeader, leaderOf}
 use Rattle.coding.specs.Radius.{NearestRule, RadiusRules}
-use Rattle.linear.specs.Refusal.{numberOf, onDone}
-use Rattle.linear.specs.declared.answer.Answer.{Answer}
-use Rattle.linear.specs.declared.answer.Answer.the-variants.{Done, Refused}
-use Rattle.decoder.specs.Outcome.{outcomeOf, wordIn, countIn}
-use Rattle.decoder.specs.Causes.{decodeAnswer}
-use Rattle.decoder.specs.declared.outcomes.Reading.{Reading}
-use Rattle.decoder.specs.declared.outcomes.Reading.the-variants.{Nearest, Within}
-use Rattle.decoder.specs.declared.outcomes.Outcome.{Outcome}
-use Rattle.decoder.specs.declared.outcomes.Outcome.the-variants.{Clean}
+use Rattle.words.specs.Refusal.{numberOf, onDone}
+use Rattle.words.specs.declared.answer.Answer.{Answer}
+use Rattle.words.specs.declared.answer.Answer.the-variants.{Done, Refused}
+use Rattle.outcomes.specs.Outcome.{outcomeOf, wordIn, countIn}
+use Rattle.outcomes.specs.Causes.{decodeAnswer}
+use Rattle.outcomes.specs.declared.outcome.Reading.{Reading}
+use Rattle.outcomes.specs.declared.outcome.Reading.the-variants.{Nearest, Within}
+use Rattle.outcomes.specs.declared.outcome.Outcome.{Outcome}
+use Rattle.outcomes.specs.declared.outcome.Outcome.the-variants.{Clean}
 
 -- the slots of a word, by a list of leaders and check rows
 abbrev pub wordBy : Reading → List ℕ → List ℕ → ℕ → ℕ

@@ -1,4 +1,2 @@
-pub mod Outcome
 pub mod Built
-pub mod Causes
 pub mod Decoded

@@ -1,27 +1,27 @@
 // Decode: a batch of received words, read as the nearest codewords or within a radius.
-use crate::causes::Measured;
-use crate::causes::batch_cause;
-use crate::causes::measured_cause;
-use crate::causes::unmeasured;
 use crate::leaders::build;
-use crate::outcomes::Reading;
-use crate::outcomes::count_in;
-use crate::outcomes::judged;
-use crate::outcomes::word_in;
-use linear::answer::Answer;
-use linear::answer::Refusal;
 use linear::check::parity_checks;
 use linear::check::syndrome;
-use linear::limits::MAX_CHECKS;
+use outcomes::causes::Measured;
+use outcomes::causes::batch_cause;
+use outcomes::causes::measured_cause;
+use outcomes::causes::unmeasured;
+use outcomes::outcome::Reading;
+use outcomes::outcome::count_in;
+use outcomes::outcome::judged;
+use outcomes::outcome::word_in;
+use words::answer::Answer;
+use words::answer::Refusal;
+use words::limits::MAX_CHECKS;
 ghost use mathlib.Core.Path.{_≡_};
 ghost use mathlib.Core.List.{map, _++_};
 ghost use Prim.Native.Nat.{ℕ, _≤_, _<_};
 ghost use lib.ListN.{length, drop};
 ghost use Rattle.coding.specs.Check.{syndrome};
 ghost use Rattle.coding.specs.Weight.{dmin};
-ghost use Rattle.linear.specs.Refusal.{ifDone};
-ghost use Rattle.linear.specs.declared.answer.Answer.the-variants.{Done};
-ghost use Rattle.decoder.specs.Causes.{batchAnswer};
+ghost use Rattle.words.specs.Refusal.{ifDone};
+ghost use Rattle.words.specs.declared.answer.Answer.the-variants.{Done};
+ghost use Rattle.outcomes.specs.Causes.{batchAnswer};
 ghost use Rattle.decoder.specs.Decoded.{wordBy, countBy, Decoded};
 
 // Each word is decoded with its leader; the later slots keep their values.

@@ -1,11 +1,9 @@
 // Part 4: the leaders. The words are tried by rising weight, of equal weight by rising number, with the syndrome kept along by one
 // column a step; a word takes the entry of its syndrome where that is blank, and the build ends when none is.
 use linear::check::syndrome;
-use linear::limits::MAX_CHECKS;
-use linear::limits::WIDTH;
+use words::limits::MAX_CHECKS;
+use words::limits::WIDTH;
 ghost use mathlib.Core.Path.{_≡_};
-ghost use mathlib.Core.List.{map};
-ghost use mathlib.Core.Bool.{not};
 ghost use Prim.Native.Nat.{ℕ, suc, _+_, _<_, _≤_, _^_};
 ghost use lib.Dec.{eqb};
 ghost use lib.ListN.{length, getD};

@@ -18,19 +18,19 @@ use Rattle.coding.proofs.WeightLaws.{weight-zero}
 use Rattle.coding.proofs.DecodeLaws.{codeword-lt}
 use Rattle.coding.proofs.SystematicLaws.{systematic-syndrome, systematic-syndrome-xor, systematic-message, systematic-codeword}
 use Rattle.coding.proofs.SearchLaws.{codeword-test, codeword-fails}
-use Rattle.linear.specs.declared.answer.Refusal.the-variants.{WordOutside, NoCodeword}
-use Rattle.linear.specs.declared.answer.Answer.the-variants.{Done, Refused}
-use Rattle.linear.proofs.AcceptLaws.{refused-done}
+use Rattle.words.specs.declared.answer.Refusal.the-variants.{WordOutside, NoCodeword}
+use Rattle.words.specs.declared.answer.Answer.the-variants.{Done, Refused}
+use Rattle.words.proofs.ShapeLaws.{refused-done}
 use Rattle.linear.proofs.TableLaws.{one-is, back-is}
-use Rattle.decoder.specs.Outcome.{outcomeOf, wordIn, countIn}
-use Rattle.decoder.specs.declared.outcomes.Reading.the-variants.{Within}
-use Rattle.decoder.specs.declared.outcomes.Outcome.the-variants.{Clean}
+use Rattle.outcomes.specs.Outcome.{outcomeOf, wordIn, countIn}
+use Rattle.outcomes.specs.declared.outcome.Reading.the-variants.{Within}
+use Rattle.outcomes.specs.declared.outcome.Outcome.the-variants.{Clean}
 use Rattle.decoder.proofs.DecodedLaws.{outcome-found, outcome-none, radius-rule, clean-rule}
 use Rattle.golay_code.specs.Golay.{golayChecks, golayRows}
 use Rattle.golay_code.proofs.GolayLaws.{golay-size, golay-inside, golay-accepted, golay-dmin, golay-distance}
 use Rattle.golay.specs.Steps.{Pattern, noPattern, ErrorPattern}
 use Rattle.golay.specs.Encoded.{Encoded}
-use Rattle.golay.specs.Decoded.{decodedTag, Decoded}
+use Rattle.golay.specs.Decoded.{golayOutcome, Decoded}
 use Rattle.golay.specs.MessageRead.{MessageRead}
 use Rattle.golay.proofs.StepLaws.{sum-lt, check-pattern, error-found}
 
@@ -59,11 +59,11 @@ module _ (w : ℕ) (h : w < 2 ^ 24) where
             ∙ xor-zero-r (systematicSyndrome 12 golayChecks w),
       )
 
-  pub outcome-is : (e : ℕ) → ErrorPattern (systematicSyndrome 12 golayChecks w) e → outcomeOf (Within 3) w e ≡ decodedTag w
-  unfolding decodedTag
+  pub outcome-is : (e : ℕ) → ErrorPattern (systematicSyndrome 12 golayChecks w) e → outcomeOf (Within 3) w e ≡ golayOutcome w
+  unfolding golayOutcome
   outcome-is e F = go (ℕ-discrete e noPattern)
     where
-      go : Dec (e ≡ noPattern) → outcomeOf (Within 3) w e ≡ decodedTag w
+      go : Dec (e ≡ noPattern) → outcomeOf (Within 3) w e ≡ golayOutcome w
       go (no ne) =
           outcome-found 24 12 golayRows golay-accepted w h 3 (rw golay-dmin (lit≤ tt)) e (pattern-codeword e (F .found ne)) (F .found ne .light)
       go (yes z) =
@@ -71,20 +71,20 @@ module _ (w : ℕ) (h : w < 2 ^ 24) where
           (λ c k. F .none z (w ⊕ c) (codeword-pattern c k .0) (codeword-pattern c k .1))
 
   -- a word with the syndrome 0 is clean
-  pub clean-is : systematicSyndrome 12 golayChecks w ≡ 0 → Clean w ≡ decodedTag w
+  pub clean-is : systematicSyndrome 12 golayChecks w ≡ 0 → Clean w ≡ golayOutcome w
   clean-is z = clean-zero ∙ outcome-is 0 (rw z (error-found 0 0 (check-pattern 0 (lit< tt) (rw weight-zero (lit≤ tt)))))
     where
       clean-zero : Clean w ≡ outcomeOf (Within 3) w 0
       clean-zero = sym (simp (weight-zero) refl)
 
-  pub golay-rules : RadiusRules ℕ (Codeword golayRows) distance 8 3 w (wordIn (decodedTag w) w) (countIn (decodedTag w)) (countIn (decodedTag w) ≡ 255)
-  unfolding decodedTag
+  pub golay-rules : RadiusRules ℕ (Codeword golayRows) distance 8 3 w (wordIn (golayOutcome w) w) (countIn (golayOutcome w)) (countIn (golayOutcome w) ≡ 255)
+  unfolding golayOutcome
   golay-rules =
-      subst (λ (d : ℕ). RadiusRules ℕ (Codeword golayRows) distance d 3 w (wordIn (decodedTag w) w) (countIn (decodedTag w)) (countIn (decodedTag w) ≡ 255))
+      subst (λ (d : ℕ). RadiusRules ℕ (Codeword golayRows) distance d 3 w (wordIn (golayOutcome w) w) (countIn (golayOutcome w)) (countIn (golayOutcome w) ≡ 255))
       golay-dmin (radius-rule 24 12 golayRows golay-accepted w h 3 (rw golay-dmin (lit≤ tt)))
 
-pub golay-clean : (w : ℕ) → (countIn (decodedTag w) ≡ 0) ↔ (decodedTag w ≡ Clean w)
-unfolding decodedTag
+pub golay-clean : (w : ℕ) → (countIn (golayOutcome w) ≡ 0) ↔ (golayOutcome w ≡ Clean w)
+unfolding golayOutcome
 golay-clean w = clean-rule 24 12 golayRows golay-accepted (Within 3) w
 
 -- ---- messages
@@ -125,7 +125,7 @@ module _ (w : ℕ) where
     clean = refused-done;
   }
 
-  pub decode-done : ltb w (2 ^ 24) ≡ true → (c d : ℕ) → c ≡ wordIn (decodedTag w) w → d ≡ countIn (decodedTag w)
+  pub decode-done : ltb w (2 ^ 24) ≡ true → (c d : ℕ) → c ≡ wordIn (golayOutcome w) w → d ≡ countIn (golayOutcome w)
       → Decoded w (record { answer = Done; word = c; count = d })
   decode-done t c d ec ed = record {
     answer = sym (simp t refl);

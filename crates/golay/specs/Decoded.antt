@@ -7,27 +7,27 @@ use Rattle.coding.specs.Word.{distance}
 use Rattle.coding.specs.Matrix.{Codeword}
 use Rattle.coding.specs.Weight.{MinimumDistance}
 use Rattle.coding.specs.Radius.{RadiusRules}
-use Rattle.linear.specs.Refusal.{unless, ifDone}
-use Rattle.linear.specs.declared.answer.Refusal.the-variants.{WordOutside}
-use Rattle.linear.specs.declared.answer.Answer.the-variants.{Done}
-use Rattle.decoder.specs.Outcome.{wordIn, countIn}
+use Rattle.words.specs.Refusal.{unless, ifDone}
+use Rattle.words.specs.declared.answer.Refusal.the-variants.{WordOutside}
+use Rattle.words.specs.declared.answer.Answer.the-variants.{Done}
+use Rattle.outcomes.specs.Outcome.{wordIn, countIn}
 use Rattle.decoder.specs.Decoded.{decodedAs}
-use Rattle.decoder.specs.declared.outcomes.Reading.the-variants.{Within}
-use Rattle.decoder.specs.declared.outcomes.Outcome.{Outcome}
-use Rattle.decoder.specs.declared.outcomes.Outcome.the-variants.{Clean}
+use Rattle.outcomes.specs.declared.outcome.Reading.the-variants.{Within}
+use Rattle.outcomes.specs.declared.outcome.Outcome.{Outcome}
+use Rattle.outcomes.specs.declared.outcome.Outcome.the-variants.{Clean}
 use Rattle.golay_code.specs.Golay.{golayRows}
 use Rattle.golay.specs.declared.decode.Correction.{Correction}
 
 -- how a received word ends: as Decode ends it with the Golay matrix, within radius 3
-unfoldable pub decodedTag : ℕ → Outcome
-decodedTag w = decodedAs 24 golayRows (Within 3) w
+unfoldable pub golayOutcome : ℕ → Outcome
+golayOutcome w = decodedAs 24 golayRows (Within 3) w
 
 -- a word of 24 places is answered by the word and the count of its outcome, any other is refused. The radius rules hold of every word,
 -- and a word is clean exactly when its count is 0
 pub record Decoded (w : ℕ) (r : Correction) : Type 0 where
   pub answer : r .answer ≡ unless (ltb w (2 ^ 24)) (WordOutside 0) Done
-  pub word : r .word ≡ ifDone (r .answer) (wordIn (decodedTag w) w) 0
-  pub count : r .count ≡ ifDone (r .answer) (countIn (decodedTag w)) 0
+  pub word : r .word ≡ ifDone (r .answer) (wordIn (golayOutcome w) w) 0
+  pub count : r .count ≡ ifDone (r .answer) (countIn (golayOutcome w)) 0
   pub apart : MinimumDistance 24 golayRows 8
   pub within : r .answer ≡ Done → RadiusRules ℕ (Codeword golayRows) distance 8 3 w (r .word) (r .count) (r .count ≡ 255)
-  pub clean : r .answer ≡ Done → (r .count ≡ 0) ↔ (decodedTag w ≡ Clean w)
+  pub clean : r .answer ≡ Done → (r .count ≡ 0) ↔ (golayOutcome w ≡ Clean w)

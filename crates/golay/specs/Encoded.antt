@@ -3,9 +3,9 @@ use mathlib.Core.Path.{_≡_}
 use Prim.Native.Nat.{ℕ, _^_, _<_}
 use lib.Dec.{ltb}
 use Rattle.coding.specs.Matrix.{encode, messageOf}
-use Rattle.linear.specs.Refusal.{unless, ifDone}
-use Rattle.linear.specs.declared.answer.Refusal.the-variants.{WordOutside}
-use Rattle.linear.specs.declared.answer.Answer.the-variants.{Done}
+use Rattle.words.specs.Refusal.{unless, ifDone}
+use Rattle.words.specs.declared.answer.Refusal.the-variants.{WordOutside}
+use Rattle.words.specs.declared.answer.Answer.the-variants.{Done}
 use Rattle.golay_code.specs.Golay.{golayRows}
 use Rattle.golay.specs.declared.encode.Codeword.{Codeword}
 

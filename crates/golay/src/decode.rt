@@ -4,20 +4,20 @@ use crate::nearby::near_row;
 use crate::rows::CHECK_ROWS;
 use crate::rows::check_sum;
 use crate::rows::syndrome;
-use decoder::outcomes::Outcome;
-use decoder::outcomes::Reading;
-use decoder::outcomes::count_in;
-use decoder::outcomes::judged;
-use decoder::outcomes::word_in;
-use linear::answer::Answer;
-use linear::answer::Refusal;
-use linear::word::fits;
-use linear::word::sum;
-use linear::word::weight;
+use outcomes::outcome::Outcome;
+use outcomes::outcome::Reading;
+use outcomes::outcome::count_in;
+use outcomes::outcome::judged;
+use outcomes::outcome::word_in;
+use words::answer::Answer;
+use words::answer::Refusal;
+use words::word::fits;
+use words::word::sum;
+use words::word::weight;
 ghost use mathlib.Core.Path.{_≡_};
 ghost use Prim.Native.Nat.{_^_, _<_};
 ghost use Rattle.golay.specs.Steps.{FewInMessage, ErrorPattern};
-ghost use Rattle.golay.specs.Decoded.{decodedTag, Decoded};
+ghost use Rattle.golay.specs.Decoded.{golayOutcome, Decoded};
 
 pub const RADIUS: u32 = 3;
 
@@ -67,7 +67,7 @@ fn error_pattern(s: u32) -> u32
 // How a received word ends.
 fn outcome(received: u32) -> Outcome
     requires { ⌜ received < 2 ^ 24 ⌝ }
-    ensures { λ o. ⌜ o ≡ decodedTag received ⌝ }
+    ensures { λ o. ⌜ o ≡ golayOutcome received ⌝ }
 {
     let s = syndrome(received);
     if s == 0 {

@@ -1,8 +1,8 @@
 // Encode: the check places of a message, then the message.
 use crate::rows::check_sum;
-use linear::answer::Answer;
-use linear::answer::Refusal;
-use linear::word::fits;
+use words::answer::Answer;
+use words::answer::Refusal;
+use words::word::fits;
 ghost use Rattle.golay.specs.Encoded.{Encoded};
 
 // The answer to a message of 12 places and its codeword; on a refusal the codeword is 0.

@@ -1,8 +1,8 @@
 // Message: a codeword is read back to its message, places 12 to 23.
 use crate::rows::syndrome;
-use linear::answer::Answer;
-use linear::answer::Refusal;
-use linear::word::fits;
+use words::answer::Answer;
+use words::answer::Refusal;
+use words::word::fits;
 ghost use Rattle.golay.specs.MessageRead.{MessageRead};
 
 // The answer to a word of 24 places and its message; on a refusal the message is 0.

@@ -1,5 +1,5 @@
 // Part 6: the check part P of the generator matrix, and sums of its rows.
-use linear::word::masked;
+use words::word::masked;
 ghost use mathlib.Core.Path.{_≡_};
 ghost use Prim.Native.Nat.{_^_, _<_};
 ghost use Rattle.coding.specs.Matrix.{encode};

@@ -2,9 +2,9 @@
 use mathlib.Core.Path.{_≡_}
 use mathlib.Core.Logic.{_↔_}
 use lib.Dec.{eqb}
-use Rattle.linear.specs.Refusal.{unless, ifDone}
-use Rattle.linear.specs.declared.answer.Refusal.the-variants.{NoCodeword}
-use Rattle.linear.specs.declared.answer.Answer.the-variants.{Done}
+use Rattle.words.specs.Refusal.{unless, ifDone}
+use Rattle.words.specs.declared.answer.Refusal.the-variants.{NoCodeword}
+use Rattle.words.specs.declared.answer.Answer.the-variants.{Done}
 use Rattle.hsiao.specs.Table.{syndromeOf, IsCodeword}
 use Rattle.hsiao.specs.declared.word.Word.{Word}
 use Rattle.hsiao.specs.declared.read.ReadBack.{ReadBack}

@@ -1,8 +1,8 @@
 // Message: the data bits of a codeword.
 use crate::syndrome::syndrome;
 use crate::word::Word;
-use linear::answer::Answer;
-use linear::answer::Refusal;
+use words::answer::Answer;
+use words::answer::Refusal;
 ghost use Rattle.hsiao.specs.DataRead.{DataRead};
 
 // A word that is no codeword is refused, with 0 as its data.

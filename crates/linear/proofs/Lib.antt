@@ -1,4 +1,3 @@
 pub mod AcceptLaws
 pub mod PackLaws
 pub mod TableLaws
-pub mod ListLaws

@@ -4,7 +4,6 @@ use mathlib.Core.Path.{_≡_, sym, ap, _∙_}
 use mathlib.Core.Logic.{_≢_}
 use mathlib.Core.List.{List, [], _∷_, map}
 use Prim.Native.Nat.{ℕ, _+_, _≤_, _<_}
-use native.Mathlib.Omega.{arith}
 use lib.ListN.{length, getD, take, drop, set, length-map, drop-of-length-le}
 use lib.Seq.{length-take-le, getD-take}
 use Rattle.coding.specs.Lists.{padded}
@@ -12,7 +11,7 @@ use Rattle.coding.specs.Reduced.{rowsOf, freesFrom}
 use Rattle.coding.specs.Check.{check}
 use Rattle.coding.proofs.ListLaws.{Packed, packed-room, packed-push, packed-end}
 use Rattle.coding.proofs.CompactLaws.{frees-free, frees-pivot, rows-free, rows-pivot}
-use Rattle.linear.specs.Limits.{maxChecks, maxRows}
+use Rattle.words.specs.Limits.{maxChecks, maxRows}
 
 -- ---- check rows of the places below n that are no pivot: j of them stand before place q
 

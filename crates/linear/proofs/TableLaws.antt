@@ -1,31 +1,25 @@
 -- Laws of the table of an accepted matrix, its reduced rows in 32 places: the rows, check rows and messages that are read off it are
 -- those of the definitions in n places. Assumes nothing.
-use mathlib.Core.Path.{_≡_, refl, sym, ap, ap₂, _∙_}
+use mathlib.Core.Path.{_≡_, sym, ap, _∙_}
 use mathlib.Core.Logic.{_↔_}
 use mathlib.Core.List.{List, _++_, map}
-use mathlib.Core.Bool.{Bool, true, false, not}
 use Prim.Native.Nat.{ℕ, _+_, _-_, _^_, _≤_, _<_}
 use native.Mathlib.Omega.{arith}
-use lib.Dec.{eqb}
-use lib.ListN.{length, getD, take}
-use lib.Seq.{take-at}
-use borrow.Author.Tests.{eqb-true, eq-eqb, ne-eqb, not-false}
-use Rattle.coding.specs.Lists.{blank, padded, first}
+use lib.ListN.{length, getD, take, length-map}
+use lib.Seq.{take-at, ext-getD}
+use Rattle.coding.specs.Lists.{blank, padded}
 use Rattle.coding.specs.Word.{_⊕_}
-use Rattle.coding.specs.Matrix.{encode, Codeword, Inside, messageOf, isCodeword, IsMessage}
+use Rattle.coding.specs.Matrix.{encode, Codeword, messageOf, IsMessage}
 use Rattle.coding.specs.Reduced.{reduce, rowsOf, freesFrom, reducedRows, Traced}
 use Rattle.coding.specs.Check.{check, column, checks, syndrome}
-use Rattle.coding.proofs.ListLaws.{map-same}
-use Rattle.coding.proofs.SearchLaws.{first-same, first-before, codeword-test, codeword-fails, message-hit}
-use Rattle.coding.proofs.PivotLaws.{ByPlace}
+use Rattle.coding.proofs.ListLaws.{getD-map, map-same}
 use Rattle.coding.proofs.ReduceLaws.{whole, syndrome-codeword}
 use Rattle.coding.proofs.EliminateLaws.{check-count}
 use Rattle.coding.proofs.CompactLaws.{rows-count}
 use Rattle.coding.proofs.WidthLaws.{inside-wide, reduce-wide, column-zeros, rows-zeros, syndrome-zeros}
-use Rattle.coding.proofs.TraceLaws.{Trace, message-trace, trace-message, trace-is, message-back}
-use Rattle.linear.specs.Limits.{maxChecks}
+use Rattle.coding.proofs.TraceLaws.{Trace, traced-at, trace-message, trace-is, message-back}
+use Rattle.words.specs.Limits.{maxChecks}
 use Rattle.linear.specs.Accepted.{Accepted}
-use Rattle.linear.specs.MessagesRead.{firstOther}
 use Rattle.linear.proofs.PackLaws.{checksFrom}
 
 module _ (n k : ℕ) (rows : List ℕ) (A : Accepted n k rows) where
@@ -46,18 +40,6 @@ module _ (n k : ℕ) (rows : List ℕ) (A : Accepted n k rows) where
   pub codeword-syndrome : (w : ℕ) → w < 2 ^ n → (syndrome (padded maxChecks (checks n rows)) w ≡ 0) ↔ Codeword rows w
   codeword-syndrome w h = rw (syndrome-zeros (checks n rows) (maxChecks - length (checks n rows)) w) (syndrome-codeword n rows (A .inside) w h)
 
-  -- so the first word whose syndrome is not 0 is the first that is no codeword
-  pub other-is : (words : List ℕ) → Inside n words
-      → first (λ i. not (eqb (syndrome (padded maxChecks (checks n rows)) (getD words i 0)) 0)) (length words) ≡ firstOther rows words
-  other-is words f = first-same _ _ (length words) (λ i h. ap not (same (getD words i 0) (f i h)))
-    where
-      same : (w : ℕ) → w < 2 ^ n → eqb (syndrome (padded maxChecks (checks n rows)) w) 0 ≡ isCodeword rows w
-      same w h = go (isCodeword rows w) refl
-        where
-          go : (b : Bool) → isCodeword rows w ≡ b → eqb (syndrome (padded maxChecks (checks n rows)) w) 0 ≡ b
-          go true e = eq-eqb _ 0 (codeword-syndrome w h .1 (codeword-test rows w .0 e))
-          go false e = ne-eqb _ 0 (λ z. Rattle.coding.proofs.SearchLaws.true-false (codeword-test rows w .1 (codeword-syndrome w h .0 z)) e)
-
   -- every codeword has exactly one message
   pub one-is : (w : ℕ) → Codeword rows w → IsMessage rows w (messageOf rows w)
   one-is w (u, h, e) =
@@ -67,19 +49,12 @@ module _ (n k : ℕ) (rows : List ℕ) (A : Accepted n k rows) where
   pub back-is : (u : ℕ) → u < 2 ^ k → messageOf rows (encode rows u) ≡ u
   back-is u h = message-back rows (A .independent) u (rw (A .count) h)
 
-  -- the messages beside the reduced rows read each codeword back
-  pub messages-are : (M : List ℕ) → Traced rows M (reduce 32 rows) → (words : List ℕ) → firstOther rows words ≡ length words
-      → map (encode M) words ≡ map (messageOf rows) words
-  messages-are M t words none = map-same (encode M) (messageOf rows) words (λ i h. sym (same (getD words i 0) (is-codeword i h)))
-    where
-      is-codeword : (i : ℕ) → i < length words → Codeword rows (getD words i 0)
-      is-codeword i h =
-          codeword-test rows (getD words i 0) .0
-          (not-false _ (first-before (λ i. not (isCodeword rows (getD words i 0))) (length words) i (rw none h)))
-
-      same : (w : ℕ) → Codeword rows w → messageOf rows w ≡ encode M w
-      same w c =
-          trace-message rows (A .independent) (encode M w) w (message-trace 32 rows M (inside-wide n 32 narrow rows (A .inside)) t w c)
+  -- the messages beside the reduced rows are theirs
+  pub beside-are : (M : List ℕ) → Traced rows M (reduce 32 rows) → M ≡ map (messageOf rows) (reduce 32 rows)
+  beside-are M t =
+      ext-getD 0 M (map (messageOf rows) (reduce 32 rows)) (t .size ∙ sym (length-map (reduce 32 rows) (messageOf rows)))
+      (λ p h. let l : p < length (reduce 32 rows) = omega (arith, h, t .size) in
+      sym (getD-map (messageOf rows) (reduce 32 rows) p l ∙ trace-message rows (A .independent) (getD M p 0) (getD (reduce 32 rows) p 0) (traced-at rows M (reduce 32 rows) t p l)))
 
   module _ (table : List ℕ) (is : table ≡ reduce 32 rows) where
     -- the table is the reduced rows in n places, and zeros

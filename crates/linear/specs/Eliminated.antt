@@ -6,7 +6,7 @@ use lib.ListN.{length, take}
 use Rattle.coding.specs.Matrix.{Depends}
 use Rattle.coding.specs.Reduced.{reduce, Traced}
 use Rattle.linear.specs.Accepted.{matrixAnswer}
-use Rattle.linear.specs.declared.answer.Answer.the-variants.{Done}
+use Rattle.words.specs.declared.answer.Answer.the-variants.{Done}
 use Rattle.linear.specs.declared.reduce.Elimination.{Elimination}
 use Rattle.linear.specs.declared.reduce.Reduction.{Reduction}
 

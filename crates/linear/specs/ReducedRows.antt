@@ -5,10 +5,10 @@ use Prim.Native.Nat.{ℕ}
 use lib.ListN.{length}
 use Rattle.coding.specs.Lists.{blank, padded}
 use Rattle.coding.specs.Reduced.{ReducedForm, reducedRows, pivots}
-use Rattle.linear.specs.Limits.{maxRows}
-use Rattle.linear.specs.Refusal.{ifDone}
+use Rattle.words.specs.Limits.{maxRows}
+use Rattle.words.specs.Refusal.{ifDone}
 use Rattle.linear.specs.Accepted.{matrixAnswer}
-use Rattle.linear.specs.declared.answer.Answer.the-variants.{Done}
+use Rattle.words.specs.declared.answer.Answer.the-variants.{Done}
 use Rattle.linear.specs.declared.reduce.Reduced.{Reduced}
 
 -- causes 1 to 4; the k reduced rows and 0 after them, or 0 at every entry; and for an accepted matrix these rows are its

@@ -1,68 +1,7 @@
 // Causes 1 to 4: which matrices are accepted.
-use crate::answer::Answer;
-use crate::answer::Refusal;
-use crate::limits::MAX_CHECKS;
-use crate::limits::MAX_PLACES;
-use crate::limits::MAX_ROWS;
-use crate::limits::MIN_PLACES;
 use crate::reduce::reduce;
-use crate::word::fits;
-ghost use mathlib.Core.Path.{_≡_};
-ghost use Rattle.linear.specs.Limits.{inRange};
-ghost use Rattle.linear.specs.Accepted.{firstOutside, shapeAnswer, Judged};
-
-// Whether n, k and n - k are within the limits.
-pub fn in_range(n: u32, k: u32) -> bool
-    ensures { λ r. ⌜ r ≡ inRange n k ⌝ }
-{
-    if n < MIN_PLACES {
-        return false;
-    }
-    if MAX_PLACES < n {
-        return false;
-    }
-    if k < 1 {
-        return false;
-    }
-    if (MAX_ROWS as u32) < k {
-        return false;
-    }
-    if n < k + 1 {
-        return false;
-    }
-    n <= k + MAX_CHECKS as u32
-}
-
-// The first word with a one at place n or beyond, or the number of words where there is none.
-pub fn first_outside(words: &[u32], n: u32) -> usize
-    ensures { λ r. ⌜ r ≡ firstOutside n (now (words .entry)) ⌝ }
-{
-    let mut i: usize = 0;
-    while i < words.len() {
-        if !fits(words[i], n) {
-            return i;
-        }
-        i += 1;
-    }
-    i
-}
-
-// Causes 1 to 3.
-pub(crate) fn shape(n: u32, k: u32, rows: &[u32]) -> Answer
-    ensures { λ r. ⌜ r ≡ shapeAnswer n k (now (rows .entry)) ⌝ }
-{
-    if !in_range(n, k) {
-        return Answer::Refused(Refusal::OutOfRange);
-    }
-    if rows.len() != k as usize {
-        return Answer::Refused(Refusal::RowCount);
-    }
-    let bad = first_outside(rows, n);
-    if bad != rows.len() {
-        return Answer::Refused(Refusal::RowOutside(bad));
-    }
-    Answer::Done
-}
+use words::answer::Answer;
+ghost use Rattle.linear.specs.Accepted.{Judged};
 
 // Causes 1 to 4: the first that refuses the matrix, or Done where it is accepted.
 pub fn accept(n: u32, k: u32, rows: &[u32]) -> Answer

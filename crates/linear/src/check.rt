@@ -1,10 +1,10 @@
 // Part 2: parity-check rows and syndromes.
-use crate::answer::Answer;
-use crate::limits::MAX_CHECKS;
-use crate::limits::WIDTH;
 use crate::reduce::reduce;
-use crate::word::parity;
-use crate::word::place;
+use words::answer::Answer;
+use words::limits::MAX_CHECKS;
+use words::limits::WIDTH;
+use words::word::parity;
+use words::word::place;
 ghost use mathlib.Core.Path.{_≡_};
 ghost use mathlib.Core.List.{map};
 ghost use Prim.Native.Nat.{_≤_};
@@ -12,7 +12,7 @@ ghost use lib.ListN.{length, take};
 ghost use Rattle.coding.specs.Lists.{padded};
 ghost use Rattle.coding.specs.Reduced.{freesFrom};
 ghost use Rattle.coding.specs.Check.{column, check, syndrome};
-ghost use Rattle.linear.specs.Limits.{maxChecks};
+ghost use Rattle.words.specs.Limits.{maxChecks};
 ghost use Rattle.linear.specs.Checks.{CodeOf, ParityChecks};
 
 // The answer to a matrix, and where it is accepted its n - k check rows; 0 at every other entry.
@@ -75,13 +75,13 @@ fn check_rows(table: &[u32], n: usize) -> [u32; MAX_CHECKS]
 
 // What parts 1 and 2 give for an accepted matrix: its check rows, and beside each pivot a message that has the reduced row of
 // that pivot as its codeword; 0 at every other entry.
-pub(crate) struct Code {
-    pub(crate) answer: Answer,
-    pub(crate) checks: [u32; MAX_CHECKS],
-    pub(crate) messages: [u32; WIDTH],
+pub struct Code {
+    pub answer: Answer,
+    pub checks: [u32; MAX_CHECKS],
+    pub messages: [u32; WIDTH],
 }
 
-pub(crate) fn code_of(n: u32, k: u32, rows: &[u32]) -> Code
+pub fn code_of(n: u32, k: u32, rows: &[u32]) -> Code
     ensures { λ r. ⌜ CodeOf n k (now (rows .entry)) r ⌝ }
 {
     let r = reduce(n, k, rows);

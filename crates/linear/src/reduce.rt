@@ -1,18 +1,18 @@
 // Part 1: the reduced row echelon form.
-use crate::accept::shape;
-use crate::answer::Answer;
-use crate::answer::Refusal;
-use crate::limits::MAX_ROWS;
-use crate::limits::WIDTH;
-use crate::word::masked;
-use crate::word::selected;
+use words::answer::Answer;
+use words::answer::Refusal;
+use words::limits::MAX_ROWS;
+use words::limits::WIDTH;
+use words::shape::shape;
+use words::word::masked;
+use words::word::selected;
 ghost use mathlib.Core.Path.{_≡_};
-ghost use Prim.Native.Nat.{ℕ, _<_, _≤_, _^_};
-ghost use lib.ListN.{length, getD, set};
+ghost use Prim.Native.Nat.{_<_, _≤_, _^_};
+ghost use lib.ListN.{length, set};
 ghost use Rattle.coding.specs.Matrix.{Inside};
 ghost use Rattle.coding.specs.Lists.{padded};
 ghost use Rattle.coding.specs.Reduced.{wipes, rowsOf};
-ghost use Rattle.linear.specs.Limits.{maxRows};
+ghost use Rattle.words.specs.Limits.{maxRows};
 ghost use Rattle.linear.specs.Eliminated.{Eliminated, ReductionOf};
 ghost use Rattle.linear.specs.ReducedRows.{ReducedRows};
 

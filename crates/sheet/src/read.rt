@@ -5,7 +5,7 @@ use crate::answer::SheetAnswer;
 use crate::field::Content;
 use crate::field::Field;
 use crate::field::field_at;
-use decoder::outcomes::Reading;
+use outcomes::outcome::Reading;
 ghost use mathlib.Core.Path.{_≡_};
 ghost use lib.ListN.{length};
 ghost use Rattle.sheet.specs.Sheet.{readingOf, sheetIn, sheetOf};

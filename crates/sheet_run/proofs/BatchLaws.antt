@@ -13,21 +13,22 @@ use Rattle.coding.specs.Lists.{blank as zeros}
 use Rattle.coding.specs.Word.{_⊕_, weight}
 use Rattle.coding.specs.Weight.{dmin}
 use Rattle.coding.specs.Leader.{syndromeOf, leaderOf}
-use Rattle.linear.specs.Limits.{maxWords, maxChecks}
-use Rattle.linear.specs.Refusal.{numberOf, valueOf}
+use Rattle.words.specs.Limits.{maxWords, maxChecks}
+use Rattle.words.specs.Refusal.{numberOf, valueOf}
 use Rattle.linear.specs.Accepted.{Accepted}
-use Rattle.linear.specs.declared.answer.Refusal.{Refusal}
-use Rattle.linear.specs.declared.answer.Answer.{Answer}
-use Rattle.linear.specs.declared.answer.Answer.the-variants.{Done, Refused}
-use Rattle.linear.proofs.AcceptLaws.{andThen-done, accepted-in}
+use Rattle.words.specs.declared.answer.Refusal.{Refusal}
+use Rattle.words.specs.declared.answer.Answer.{Answer}
+use Rattle.words.specs.declared.answer.Answer.the-variants.{Done, Refused}
+use Rattle.words.proofs.ShapeLaws.{andThen-done}
+use Rattle.linear.proofs.AcceptLaws.{accepted-in}
 use Rattle.weights.proofs.DescribeLaws.{distance-is}
-use Rattle.decoder.specs.Outcome.{takes, outcomeOf, wordIn, countIn}
-use Rattle.decoder.specs.Causes.{batchAnswer, leaderAnswer, decodeAnswer}
+use Rattle.outcomes.specs.Outcome.{takes, outcomeOf, wordIn, countIn}
+use Rattle.outcomes.specs.Causes.{batchAnswer, leaderAnswer, decodeAnswer}
 use Rattle.decoder.specs.Decoded.{decodedAs, wordOf, countOf, Decoded}
-use Rattle.decoder.specs.declared.outcomes.Reading.{Reading}
-use Rattle.decoder.specs.declared.outcomes.Outcome.{Outcome}
-use Rattle.decoder.specs.declared.outcomes.Outcome.the-variants.{Clean, Mended, Far}
-use Rattle.decoder.proofs.CauseLaws.{Passed, batch-in}
+use Rattle.outcomes.specs.declared.outcome.Reading.{Reading}
+use Rattle.outcomes.specs.declared.outcome.Outcome.{Outcome}
+use Rattle.outcomes.specs.declared.outcome.Outcome.the-variants.{Clean, Mended, Far}
+use Rattle.outcomes.proofs.CauseLaws.{Passed, batch-in}
 use Rattle.decoder.proofs.DecodedLaws.{leader-weight}
 use Rattle.sheet_run.specs.Output.{ending, wordLine, wordLines, refusedLine, codeLine, linesOf, batchOutput}
 use Rattle.sheet_run.specs.Slots.{slotEnding, slotLine, slotLines}

@@ -10,18 +10,20 @@ use borrow.Author.Tests.{ne-eqb, lt-leb}
 use lib.ListN.{length, take}
 use lib.Seq.{take-all, length-take-le}
 use Rattle.coding.specs.Weight.{dmin}
-use Rattle.linear.specs.Limits.{inRange, maxRows, maxWords, maxChecks}
-use Rattle.linear.specs.Refusal.{unless, andThen}
-use Rattle.linear.specs.Accepted.{shapeAnswer, matrixAnswer}
-use Rattle.linear.specs.Encoded.{listAnswer}
-use Rattle.linear.specs.declared.answer.Refusal.{Refusal}
-use Rattle.linear.specs.declared.answer.Refusal.the-variants.{OutOfRange, RowCount, TooManyWords}
-use Rattle.linear.specs.declared.answer.Answer.{Answer}
-use Rattle.linear.specs.declared.answer.Answer.the-variants.{Done, Refused}
-use Rattle.linear.proofs.AcceptLaws.{range-in, shape-refused}
-use Rattle.decoder.specs.Causes.{radiusAnswer, listsAnswer, batchAnswer, leaderAnswer, decodeAnswer}
-use Rattle.decoder.specs.declared.outcomes.Reading.{Reading}
-use Rattle.decoder.proofs.CauseLaws.{at-matrix}
+use Rattle.words.specs.Limits.{inRange, maxRows, maxWords, maxChecks}
+use Rattle.words.specs.Refusal.{unless, andThen}
+use Rattle.words.specs.Shape.{shapeAnswer}
+use Rattle.linear.specs.Accepted.{matrixAnswer}
+use Rattle.words.specs.Lists.{listAnswer}
+use Rattle.words.specs.declared.answer.Refusal.{Refusal}
+use Rattle.words.specs.declared.answer.Refusal.the-variants.{OutOfRange, RowCount, TooManyWords}
+use Rattle.words.specs.declared.answer.Answer.{Answer}
+use Rattle.words.specs.declared.answer.Answer.the-variants.{Done, Refused}
+use Rattle.words.proofs.ShapeLaws.{range-in}
+use Rattle.linear.proofs.AcceptLaws.{shape-refused}
+use Rattle.outcomes.specs.Causes.{radiusAnswer, listsAnswer, batchAnswer, leaderAnswer, decodeAnswer}
+use Rattle.outcomes.specs.declared.outcome.Reading.{Reading}
+use Rattle.outcomes.proofs.CauseLaws.{at-matrix}
 use Rattle.sheet_run.specs.Output.{linesOf, batchOutput}
 
 -- the number of rows is none that a code has: cause 1 or 2

@@ -4,16 +4,16 @@ use Prim.Native.Nat.{ℕ, _-_, _/_, _^_}
 use Rattle.coding.specs.Lists.{tabulate}
 use Rattle.coding.specs.Word.{bit}
 use Rattle.coding.specs.Weight.{dmin}
-use Rattle.linear.specs.Limits.{maxWords, maxChecks}
-use Rattle.linear.specs.Refusal.{numberOf, valueOf}
-use Rattle.linear.specs.declared.answer.Answer.{Answer}
-use Rattle.linear.specs.declared.answer.Answer.the-variants.{Done, Refused}
-use Rattle.decoder.specs.Outcome.{wordIn}
-use Rattle.decoder.specs.Causes.{decodeAnswer}
+use Rattle.words.specs.Limits.{maxWords, maxChecks}
+use Rattle.words.specs.Refusal.{numberOf, valueOf}
+use Rattle.words.specs.declared.answer.Answer.{Answer}
+use Rattle.words.specs.declared.answer.Answer.the-variants.{Done, Refused}
+use Rattle.outcomes.specs.Outcome.{wordIn}
+use Rattle.outcomes.specs.Causes.{decodeAnswer}
 use Rattle.decoder.specs.Decoded.{decodedAs}
-use Rattle.decoder.specs.declared.outcomes.Reading.{Reading}
-use Rattle.decoder.specs.declared.outcomes.Outcome.{Outcome}
-use Rattle.decoder.specs.declared.outcomes.Outcome.the-variants.{Clean, Mended, Far}
+use Rattle.outcomes.specs.declared.outcome.Reading.{Reading}
+use Rattle.outcomes.specs.declared.outcome.Outcome.{Outcome}
+use Rattle.outcomes.specs.declared.outcome.Outcome.the-variants.{Clean, Mended, Far}
 use Rattle.sheet.specs.Fault as fault
 use Rattle.sheet.specs.Sheet.{sheetOf}
 use Rattle.sheet_run.specs.Words.{wordsAt}

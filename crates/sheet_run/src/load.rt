@@ -1,6 +1,7 @@
 // Rows and words of a sheet: four bytes each, low byte first.
+use words::lists::smaller;
 ghost use mathlib.Core.Path.{_≡_};
-ghost use Prim.Native.Nat.{_+_, _*_, _≤_, min};
+ghost use Prim.Native.Nat.{_+_, _*_, _≤_};
 ghost use lib.ListN.{length};
 ghost use Rattle.sheet_run.specs.Words.{wordAt, Loaded};
 
@@ -13,12 +14,6 @@ fn word_at(bytes: &[u8], at: usize) -> u32
         + 256 * (bytes[at + 1] as u32)
         + 65536 * (bytes[at + 2] as u32)
         + 16777216 * (bytes[at + 3] as u32)
-}
-
-fn smaller(a: usize, b: usize) -> usize
-    ensures { λ r. ⌜ r ≡ min a b ⌝ }
-{
-    if a < b { a } else { b }
 }
 
 // Copies the words from a position on into the list, as many as it holds; answers how many.

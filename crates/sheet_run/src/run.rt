@@ -3,23 +3,20 @@ use crate::load::load;
 use crate::print::put_batch;
 use crate::print::put_refusal;
 use decoder::batch::decode_measured;
-use decoder::outcomes::Reading;
-use linear::answer::Answer;
-use linear::answer::Refusal;
-use linear::limits::MAX_WORDS;
-use sheet::answer::Fault;
+use outcomes::outcome::Reading;
 use sheet::answer::Sheet;
 use sheet::answer::SheetAnswer;
 use sheet::answer::number;
 use sheet::answer::value;
 use sheet::read::read;
-ghost use mathlib.Core.Path.{_≡_};
+use words::answer::Answer;
+use words::answer::Refusal;
+use words::limits::MAX_WORDS;
 ghost use Prim.Native.Nat.{_+_, _*_, _≤_};
 ghost use lib.ListN.{length};
-ghost use Rattle.linear.specs.Refusal.{numberOf, valueOf};
+ghost use Rattle.words.specs.Refusal.{numberOf, valueOf};
 ghost use Rattle.sheet_run.specs.Appended.{Appends};
-ghost use Rattle.sheet_run.specs.Output.{refusedLine, batchOutput, printed, outputOf};
-ghost use Rattle.sheet.specs.Fault.{numberOf as faultNumber, valueOf as faultValue};
+ghost use Rattle.sheet_run.specs.Output.{refusedLine, batchOutput, printed};
 ghost use Rattle.sheet_run.specs.Run.{maxOutput, Ran};
 
 // Room for the longest output.
@@ -33,18 +30,12 @@ const WORDS_READ: usize = 513;
 // A working entry for each syndrome.
 const LEADERS: usize = 4096;
 
-fn put_fault(out: &mut [u8], f: Fault) -> usize
-    requires { ⌜ maxOutput ≤ length (now out) ⌝ }
-    ensures { λ r. ⌜ Appends (now (out .entry)) 0 (refusedLine (faultNumber f) (faultValue f)) (now (out .exit)) r ⌝ }
-{
-    put_refusal(out, number(f), value(f))
-}
-
+// The line of a cause of Decode.
 fn put_cause(out: &mut [u8], c: Refusal) -> usize
     requires { ⌜ maxOutput ≤ length (now out) ⌝ }
     ensures { λ r. ⌜ Appends (now (out .entry)) 0 (refusedLine (numberOf c) (valueOf c)) (now (out .exit)) r ⌝ }
 {
-    put_refusal(out, linear::answer::number(c), linear::answer::value(c))
+    put_refusal(out, words::answer::number(c), words::answer::value(c))
 }
 
 // A batch is decoded and printed.
@@ -106,6 +97,6 @@ pub fn run(sheet: &[u8], out: &mut [u8]) -> usize
     let a = read(sheet);
     match a {
         SheetAnswer::Read(s) => run_sheet(sheet, s, out),
-        SheetAnswer::Refused(f) => put_fault(out, f),
+        SheetAnswer::Refused(f) => put_refusal(out, number(f), value(f)),
     }
 }

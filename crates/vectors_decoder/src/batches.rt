@@ -7,7 +7,7 @@ use crate::series::UNUSED_COUNT;
 use crate::series::UNUSED_ENTRY;
 use crate::walk;
 use decoder::batch::decode;
-use decoder::outcomes::Reading;
+use outcomes::outcome::Reading;
 use weights::weights::weights_of;
 
 // How many of the sent codewords came back, and how many ended otherwise than demand 3 says.

@@ -7,7 +7,7 @@ use crate::series::UNUSED_COUNT;
 use crate::series::UNUSED_ENTRY;
 use crate::walk;
 use decoder::batch::decode;
-use decoder::outcomes::Reading;
+use outcomes::outcome::Reading;
 use weights::weights::weights_of;
 
 // One reading: each answer is compared with the walk over the codewords.

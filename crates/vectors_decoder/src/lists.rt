@@ -7,7 +7,7 @@ use crate::print;
 use crate::series::UNUSED;
 use crate::series::UNUSED_COUNT;
 use crate::series::UNUSED_ENTRY;
-use decoder::outcomes::Reading;
+use outcomes::outcome::Reading;
 
 // Longer than is needed, each by another number of slots.
 fn longer() {

@@ -6,7 +6,7 @@ use crate::print;
 use crate::series::UNUSED;
 use crate::series::UNUSED_COUNT;
 use crate::series::UNUSED_ENTRY;
-use decoder::outcomes::Reading;
+use outcomes::outcome::Reading;
 
 // Causes 6 to 9 at once: too many words, each outside, and short lists.
 fn all_wrong(n: u32, k: u32, rows: &[u32], reading: Reading) {

@@ -5,7 +5,7 @@ use crate::series::UNUSED;
 use crate::series::UNUSED_COUNT;
 use crate::series::UNUSED_ENTRY;
 use decoder::batch::decode;
-use decoder::outcomes::Reading;
+use outcomes::outcome::Reading;
 
 // Every slot is printed.
 pub(crate) fn decoded(

@@ -7,7 +7,7 @@ use crate::print;
 use crate::series::UNUSED;
 use crate::series::UNUSED_COUNT;
 use crate::series::UNUSED_ENTRY;
-use decoder::outcomes::Reading;
+use outcomes::outcome::Reading;
 
 // k below 1, n above 28, n - k above 12 and below 1.
 fn ranges() {

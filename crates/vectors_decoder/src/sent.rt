@@ -4,9 +4,9 @@ use crate::series::counted;
 use crate::series::next;
 use crate::series::slot;
 use crate::walk::same;
-use decoder::outcomes::Reading;
-use linear::encode::row_sum;
-use linear::word::distance;
+use outcomes::outcome::Reading;
+use words::sums::row_sum;
+use words::word::distance;
 
 fn any_codeword(rows: &[u32], x: u32) -> u32 {
     row_sum(rows, x >> 8)

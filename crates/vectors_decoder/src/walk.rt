@@ -2,11 +2,11 @@
 use crate::series::count_slot;
 use crate::series::counted;
 use crate::series::slot;
-use decoder::outcomes::Reading;
-use linear::encode::row_sum;
-use linear::word::distance;
-use linear::word::sum;
-use linear::word::weight;
+use outcomes::outcome::Reading;
+use words::sums::row_sum;
+use words::word::distance;
+use words::word::sum;
+use words::word::weight;
 
 // Entry u becomes the codeword of message u.
 pub(crate) fn fill_codewords(list: &mut [u32], rows: &[u32]) {

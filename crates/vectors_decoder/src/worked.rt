@@ -5,7 +5,7 @@ use crate::print;
 use crate::series::UNUSED;
 use crate::series::UNUSED_COUNT;
 use crate::series::UNUSED_ENTRY;
-use decoder::outcomes::Reading;
+use outcomes::outcome::Reading;
 
 // 1101000, 0110100, 1110010, 1010001: 1001111 gives 1001011, 1000100 gives 1000110.
 fn seven_four() {

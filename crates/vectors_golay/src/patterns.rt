@@ -4,8 +4,8 @@ use crate::print::line_end;
 use crate::print::text;
 use golay::decode::decode;
 use golay::encode::encode;
-use linear::word::sum;
-use linear::word::weight;
+use words::word::sum;
+use words::word::weight;
 
 // Whether the codeword changed by the pattern is answered as demand 3 has it.
 fn right(codeword: u32, pattern: u32) -> bool {

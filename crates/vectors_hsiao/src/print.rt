@@ -1,10 +1,10 @@
 // What a line is made of: text and numbers in decimal.
 use hsiao::word::Word;
 use libc::STDOUT_FILENO;
-use linear::answer::Answer;
-use linear::answer::Refusal;
-use linear::answer::number;
-use linear::answer::value;
+use words::answer::Answer;
+use words::answer::Refusal;
+use words::answer::number;
+use words::answer::value;
 
 pub(crate) fn text(t: &[u8]) {
     io::write_all(STDOUT_FILENO, t);

@@ -5,7 +5,7 @@ use crate::operations;
 use crate::print;
 use crate::series;
 use crate::series::UNUSED;
-use linear::message::message;
+use encoder::message::message;
 
 // 512 words pass, 513 do not.
 fn word_counts() {

@@ -2,7 +2,7 @@
 use crate::operations;
 use crate::print;
 use crate::series::UNUSED;
-use linear::encode::row_sum;
+use words::sums::row_sum;
 
 pub(crate) const ROWS: [u32; 4] = [11, 22, 39, 69];
 

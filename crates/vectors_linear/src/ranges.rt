@@ -1,7 +1,7 @@
 // Cause 1: n, k or n - k out of range.
 use crate::operations;
 use crate::print;
-use linear::accept::in_range;
+use words::shape::in_range;
 
 // m with a one at place k where yes.
 fn marked(m: u32, k: u32, yes: bool) -> u32 {

@@ -1,12 +1,12 @@
 // Words: sum, weight, distance, parity, places.
 use crate::print;
-use linear::word::distance;
-use linear::word::fits;
-use linear::word::parity;
-use linear::word::place;
-use linear::word::selected;
-use linear::word::sum;
-use linear::word::weight;
+use words::word::distance;
+use words::word::fits;
+use words::word::parity;
+use words::word::place;
+use words::word::selected;
+use words::word::sum;
+use words::word::weight;
 
 fn sums() {
     print::fact(b"sum 1011 1101:", sum(13, 11));

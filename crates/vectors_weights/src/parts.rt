@@ -1,10 +1,10 @@
 // Every part of a description, whole; and weights_of, which gives some of them.
 use crate::numbers;
 use crate::print;
-use linear::word::weight;
 use weights::describe::Description;
 use weights::describe::describe;
 use weights::weights::weights_of;
+use words::word::weight;
 
 fn rows_line(rows: &[u32; 16]) {
     print::line(b"  reduced rows", rows);

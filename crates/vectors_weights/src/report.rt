@@ -2,9 +2,9 @@
 use crate::numbers;
 use crate::print;
 use linear::check::syndrome;
-use linear::word::weight;
 use weights::describe::Description;
 use weights::describe::describe;
+use words::word::weight;
 
 // The answer, the minimum distance and how many codewords have each weight.
 fn weights_line(name: &[u8], n: u32, k: u32, d: Description) {

@@ -4,11 +4,11 @@ use mathlib.Core.List.{List}
 use Prim.Native.Nat.{ℕ, _^_}
 use Rattle.coding.specs.Lists.{blank, padded, total}
 use Rattle.coding.specs.Weight.{weightCounts, dmin, MinimumDistance, Lightest}
-use Rattle.linear.specs.Refusal.{ifDone}
+use Rattle.words.specs.Refusal.{ifDone}
 use Rattle.linear.specs.Accepted.{matrixAnswer}
 use Rattle.linear.specs.ReducedRows.{ReducedRows}
 use Rattle.linear.specs.Checks.{ParityChecks}
-use Rattle.linear.specs.declared.answer.Answer.the-variants.{Done}
+use Rattle.words.specs.declared.answer.Answer.the-variants.{Done}
 use Rattle.weights.specs.declared.weights.Weights.{Weights}
 use Rattle.weights.specs.declared.describe.Description.{Description}
 

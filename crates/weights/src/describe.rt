@@ -1,11 +1,11 @@
 // Describe: what a matrix's code is, by value.
 use crate::weights::weights_of;
-use linear::answer::Answer;
 use linear::check::parity_checks;
-use linear::limits::MAX_CHECKS;
-use linear::limits::MAX_ROWS;
-use linear::limits::WIDTH;
 use linear::reduce::reduced_rows;
+use words::answer::Answer;
+use words::limits::MAX_CHECKS;
+use words::limits::MAX_ROWS;
+use words::limits::WIDTH;
 ghost use Rattle.weights.specs.Described.{Described};
 
 // The answer to a matrix; where it is accepted, its reduced rows, check rows, minimum distance, weight counts and a codeword of

@@ -1,12 +1,11 @@
 // One walk over all codewords. The codewords of the first rows, at most 256, are kept as a block; each sum of the other rows is added
 // to the whole block, so that a codeword costs one sum.
-use linear::encode::row_sum;
-use linear::limits::WIDTH;
-use linear::word::distance;
+use words::limits::WIDTH;
+use words::sums::row_sum;
+use words::word::distance;
 ghost use mathlib.Core.Path.{_≡_};
 ghost use mathlib.Core.List.{map, _++_};
-ghost use mathlib.Core.Bool.{not};
-ghost use Prim.Native.Nat.{ℕ, suc, _+_, _<_, _≤_, _^_};
+ghost use Prim.Native.Nat.{ℕ, _+_, _<_, _≤_, _^_};
 ghost use lib.Dec.{eqb};
 ghost use lib.ListN.{length, getD};
 ghost use Rattle.coding.specs.Lists.{first, tabulate};

@@ -1,8 +1,8 @@
 // Part 3: weight counts, minimum distance and a lightest codeword, from one walk.
 use crate::walk::walk_all;
 use linear::accept::accept;
-use linear::answer::Answer;
-use linear::limits::WIDTH;
+use words::answer::Answer;
+use words::limits::WIDTH;
 ghost use Rattle.weights.specs.Described.{WeightsOf};
 
 // The answer to a matrix; where it is accepted, its minimum distance, how many codewords it has of each weight (0 past n), and a

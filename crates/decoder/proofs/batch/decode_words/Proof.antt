@@ -6,9 +6,9 @@ use lib.ListN.{length, getD, drop, set, length-set, length-map}
 use borrow.Author.Needs.{scaled-fits}
 use Rattle.coding.specs.Check.{syndrome}
 use Rattle.coding.proofs.ListLaws.{getD-map, over, over-set, over-all}
-use Rattle.decoder.specs.Outcome.{outcomeOf, wordIn, countIn}
+use Rattle.outcomes.specs.Outcome.{outcomeOf, wordIn, countIn}
 use Rattle.decoder.specs.Decoded.{wordBy, countBy}
-use Rattle.decoder.specs.declared.outcomes.Outcome.{Outcome}
+use Rattle.outcomes.specs.declared.outcome.Outcome.{Outcome}
 use borrow.Author.Needs.{needs}
 use native.Mathlib.Omega.{arith}
 use Rattle.decoder.proofs.batch.decode_words.Statement.{statement}

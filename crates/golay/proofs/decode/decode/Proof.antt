@@ -2,8 +2,8 @@
 use mathlib.Core.Path.{sym, ap, _∙_}
 use Prim.Native.Nat.{_^_}
 use borrow.Author.Tests.{ltb-true, not-true, not-false}
-use Rattle.decoder.specs.Outcome.{wordIn, countIn}
-use Rattle.decoder.specs.declared.outcomes.Outcome.{Outcome}
+use Rattle.outcomes.specs.Outcome.{wordIn, countIn}
+use Rattle.outcomes.specs.declared.outcome.Outcome.{Outcome}
 use Rattle.golay.proofs.AnswerLaws.{decode-refused, decode-done}
 use borrow.Author.Needs.{needs}
 use Rattle.golay.proofs.decode.decode.Statement.{statement}

@@ -1,14 +1,14 @@
 -- `linear::check::check_rows`: the check rows of the free places below q are packed in front of zeros. Assumes nothing.
-use mathlib.Core.Path.{_≡_, refl, sym, ap, ap₂, _∙_}
+use mathlib.Core.Path.{_≡_, ap₂}
 use mathlib.Core.Logic.{⊎-elim}
 use mathlib.Core.List.{List}
-use Prim.Native.Nat.{ℕ, _^_, _≤_, _<_, _-_, _+_, _*_, _%_}
+use Prim.Native.Nat.{ℕ, _^_, _≤_, _-_, _+_, _*_, _%_}
 use lib.ListN.{length}
 use Rattle.coding.specs.Word.{_⊕_}
-use Rattle.coding.specs.Check.{column, check}
+use Rattle.coding.specs.Check.{check}
 use Rattle.coding.proofs.ListLaws.{Packed, packed-start}
 use Rattle.coding.proofs.MachineLaws.{shl-one}
-use Rattle.linear.specs.Limits.{maxChecks}
+use Rattle.words.specs.Limits.{maxChecks}
 use Rattle.linear.proofs.PackLaws.{checksFrom, check-room, check-push, check-skip, check-end}
 use borrow.Author.Needs.{needs}
 use native.Mathlib.Omega.{arith}

@@ -1,11 +1,11 @@
 -- `linear::check::code_of`: the table of an accepted matrix gives the check rows of the definition. Assumes nothing.
-use mathlib.Core.Path.{_≡_, refl, sym, ap, _∙_}
+use mathlib.Core.Path.{refl, sym, ap, _∙_}
 use Rattle.coding.specs.Lists.{padded}
-use Rattle.coding.specs.Reduced.{Traced}
-use Rattle.linear.specs.Limits.{maxChecks}
+use Rattle.words.specs.Limits.{maxChecks}
 use Rattle.linear.specs.Accepted.{Accepted}
-use Rattle.linear.proofs.AcceptLaws.{accepted-in, refused-done}
-use Rattle.linear.proofs.TableLaws.{table-size, checks-few, checks-are}
+use Rattle.linear.proofs.AcceptLaws.{accepted-in}
+use Rattle.words.proofs.ShapeLaws.{refused-done}
+use Rattle.linear.proofs.TableLaws.{table-size, checks-few, checks-are, beside-are}
 use borrow.Author.Needs.{needs}
 use native.Mathlib.Omega.{arith}
 use Rattle.linear.proofs.check.code_of.Statement.{statement}
@@ -23,7 +23,7 @@ enum-told-2 c = search needs
 returns : tie.Need-returns
 returns c =
     let e = c .enum-told2 .given .1 in
-    record { answer = c .before .before .reduce .ensures .answer; checks-are = rw e refl; traced = λ d. refused-done (sym e ∙ d) }
+    record { answer = c .before .before .reduce .ensures .answer; checks-are = rw e refl; messages-are = rw e refl; traced = λ d. refused-done (sym e ∙ d) }
 
 slice-aggregate-check-rows : tie.Need-slice-aggregate-check-rows
 slice-aggregate-check-rows c = search needs
@@ -51,6 +51,7 @@ returns-2 c =
     record {
       answer = sym d ∙ R .ensures .answer;
       checks-are = q .check-rows .ensures ∙ ap (padded maxChecks) (checks-are (a .n) (a .k) (a .rows .now) A (R .result .table) (R .ensures .table d));
+      messages-are = beside-are (a .n) (a .k) (a .rows .now) A (R .result .messages) (rw (R .ensures .table d) at (R .ensures .traced d));
       traced = λ _. rw (R .ensures .table d) at (R .ensures .traced d);
     }
 

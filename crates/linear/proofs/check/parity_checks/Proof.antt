@@ -3,9 +3,9 @@ use mathlib.Core.Path.{_≡_, sym, _∙_}
 use Rattle.coding.specs.Lists.{padded}
 use Rattle.coding.specs.Check.{checks}
 use Rattle.coding.proofs.CheckRowLaws.{check-rows}
-use Rattle.linear.specs.Limits.{maxChecks}
+use Rattle.words.specs.Limits.{maxChecks}
 use Rattle.linear.specs.Accepted.{Accepted}
-use Rattle.linear.specs.declared.answer.Answer.the-variants.{Done}
+use Rattle.words.specs.declared.answer.Answer.the-variants.{Done}
 use Rattle.linear.proofs.AcceptLaws.{accepted-in}
 use Rattle.linear.proofs.TableLaws.{frees-are, codeword-syndrome}
 use borrow.Author.Needs.{needs}

@@ -1,12 +1,11 @@
 -- `linear::reduce::compact`: the rows of the places below q are packed in front of zeros. Assumes nothing.
-use mathlib.Core.Path.{_≡_}
 use mathlib.Core.Logic.{⊎-elim}
 use mathlib.Core.List.{List}
-use Prim.Native.Nat.{ℕ, _≤_, _<_, _-_, _+_}
+use Prim.Native.Nat.{ℕ, _≤_, _-_, _+_}
 use lib.ListN.{length, drop}
 use Rattle.coding.specs.Reduced.{rowsOf}
 use Rattle.coding.proofs.ListLaws.{Packed, packed-start}
-use Rattle.linear.specs.Limits.{maxRows}
+use Rattle.words.specs.Limits.{maxRows}
 use Rattle.linear.proofs.PackLaws.{row-room, row-push, row-skip, row-end}
 use borrow.Author.Needs.{needs}
 use native.Mathlib.Omega.{arith}

@@ -1,16 +1,16 @@
 -- `linear::reduce::reduce`: the row at which the elimination ends is the first that is a sum of earlier rows. Assumes nothing.
-use mathlib.Core.Path.{_≡_, refl, sym, ap, _∙_}
-use mathlib.Core.List.{List}
-use Prim.Native.Nat.{ℕ, _≤_}
+use mathlib.Core.Path.{_≡_, sym, ap, _∙_}
+use Prim.Native.Nat.{ℕ}
 use lib.ListN.{length, take}
 use lib.Seq.{take-length}
-use Rattle.coding.specs.Matrix.{Inside, firstDependent}
+use Rattle.coding.specs.Matrix.{firstDependent}
 use Rattle.coding.specs.Reduced.{reduce}
 use Rattle.coding.proofs.DependLaws.{dependent-is}
 use Rattle.coding.proofs.WidthLaws.{inside-wide}
-use Rattle.linear.specs.declared.answer.Refusal.the-variants.{Dependent}
-use Rattle.linear.specs.declared.answer.Answer.the-variants.{Refused}
-use Rattle.linear.proofs.AcceptLaws.{Shaped, shape-in, shape-refused, ends-dependent, ends-done, refused-done}
+use Rattle.words.specs.declared.answer.Refusal.the-variants.{Dependent}
+use Rattle.words.specs.declared.answer.Answer.the-variants.{Refused}
+use Rattle.words.proofs.ShapeLaws.{Shaped, shape-in, refused-done}
+use Rattle.linear.proofs.AcceptLaws.{shape-refused, ends-dependent, ends-done}
 use borrow.Author.Needs.{needs}
 use native.Mathlib.Omega.{arith}
 use Rattle.linear.proofs.reduce.reduce.Statement.{statement}

@@ -1,13 +1,13 @@
 -- `linear::reduce::reduced_rows`: the table gives the reduced rows of the definition. Assumes nothing.
-use mathlib.Core.Path.{_≡_, refl, sym, ap, _∙_}
-use lib.ListN.{length}
+use mathlib.Core.Path.{refl, sym, ap, _∙_}
 use Rattle.coding.specs.Lists.{padded}
-use Rattle.coding.specs.Reduced.{rowsOf, reducedRows, pivots}
+use Rattle.coding.specs.Reduced.{reducedRows, pivots}
 use Rattle.coding.proofs.EchelonLaws.{reducedRows-form}
 use Rattle.coding.proofs.UniqueLaws.{reducedForm-unique}
-use Rattle.linear.specs.Limits.{maxRows}
+use Rattle.words.specs.Limits.{maxRows}
 use Rattle.linear.specs.Accepted.{Accepted}
-use Rattle.linear.proofs.AcceptLaws.{accepted-in, refused-done}
+use Rattle.linear.proofs.AcceptLaws.{accepted-in}
+use Rattle.words.proofs.ShapeLaws.{refused-done}
 use Rattle.linear.proofs.TableLaws.{rows-are, compact-is}
 use borrow.Author.Needs.{needs}
 use native.Mathlib.Omega.{arith}

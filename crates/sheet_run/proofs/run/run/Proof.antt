@@ -1,6 +1,8 @@
 -- `sheet_run::run::run`: the sheet that was read, or its refusal. Assumes nothing.
-use mathlib.Core.Path.{sym, _∙_}
+use mathlib.Core.Path.{sym, ap₂, _∙_}
 use Rattle.sheet.proofs.PlacedLaws.{placed}
+use Rattle.sheet_run.specs.Output.{refusedLine}
+use Rattle.sheet_run.proofs.AppendLaws.{appends-as}
 use Rattle.sheet_run.proofs.RunLaws.{ran, ran-not}
 use borrow.Author.Needs.{needs}
 use Rattle.sheet_run.proofs.run.run.Statement.{statement}
@@ -23,8 +25,14 @@ run-sheet-requires c κs =
 enum-known-a-2 : tie.Need-enum-known-a-2
 enum-known-a-2 c = search needs
 
-put-fault-requires : tie.Need-put-fault-requires
-put-fault-requires c κs = search needs
+number-requires : tie.Need-number-requires
+number-requires c κs = search needs
+
+value-requires : tie.Need-value-requires
+value-requires c κs = search needs
+
+put-refusal-requires : tie.Need-put-refusal-requires
+put-refusal-requires c κs = search needs
 
 same-length : tie.Need-same-length
 same-length c = search needs
@@ -39,8 +47,11 @@ same-length-2 c = search needs
 
 returns-3 : tie.Need-returns-3
 returns-3 c =
-    let s = c .before .before .before .before .before .before .before .before .before .before .before in
-    ran (s .args .sheet .now) (s .args .out .now) (c .before .before .before .before .before .before .before .before .if1 .left) (sym (c .before .before .before .before .before .a2 .given .1) ∙ c .before .before .before .before .before .before .before .read .ensures) (c .before .before .put-fault .ensures)
+    let p = c .before .before in
+    let m = p .before .before .before .before .before in
+    let s = m .before .before .before .before .before .before in
+    ran (s .args .sheet .now) (s .args .out .now) (m .before .before .before .if1 .left) (sym (m .a2 .given .1) ∙ m .before .before .read .ensures)
+    (appends-as (p .put-refusal .ensures) _ (ap₂ refusedLine (p .before .before .number .ensures) (p .before .value .ensures)))
 
 pub run-spec : {M : Type 1} → statement M
 run-spec =
@@ -51,7 +62,9 @@ run-spec =
     enum-known-a
     run-sheet-requires
     enum-known-a-2
-    put-fault-requires
+    number-requires
+    value-requires
+    put-refusal-requires
     same-length
     returns-2
     same-length-2

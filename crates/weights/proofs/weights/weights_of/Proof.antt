@@ -1,6 +1,6 @@
 -- `weights::weights::weights_of`: the walk over an accepted matrix, in the words of part 3. Assumes nothing.
-use mathlib.Core.Path.{_≡_, refl, sym, ap, _∙_}
-use Rattle.linear.proofs.AcceptLaws.{refused-done}
+use mathlib.Core.Path.{refl, sym, ap, _∙_}
+use Rattle.words.proofs.ShapeLaws.{refused-done}
 use Rattle.coding.proofs.WeightCountLaws.{weightCounts-total}
 use Rattle.weights.proofs.DescribeLaws.{distance-is, counts-are, least-is, lightest-is}
 use Prim.Native.Nat.{ℕ, _^_}

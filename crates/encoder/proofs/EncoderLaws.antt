@@ -1,0 +1,87 @@
+-- Laws of Encode and Message: what they promise, from the answer and the slots; the first word that is no codeword is found by its
+-- syndrome; and the messages beside the reduced rows read each codeword back. Assumes nothing.
+use mathlib.Core.Path.{_≡_, refl, sym, ap, _∙_}
+use mathlib.Core.List.{List, map}
+use mathlib.Core.Bool.{Bool, true, false, not}
+use Prim.Native.Nat.{ℕ, _^_, _<_}
+use native.Mathlib.Omega.{arith}
+use lib.Dec.{eqb}
+use lib.ListN.{length, getD}
+use borrow.Author.Tests.{eq-eqb, ne-eqb, not-false}
+use Rattle.coding.specs.Lists.{first, padded}
+use Rattle.coding.specs.Matrix.{encode, Codeword, Inside, messageOf, isCodeword}
+use Rattle.coding.specs.Reduced.{reduce, Traced}
+use Rattle.coding.specs.Check.{checks, syndrome}
+use Rattle.coding.proofs.ListLaws.{map-same}
+use Rattle.coding.proofs.SearchLaws.{first-same, first-before, codeword-test, true-false}
+use Rattle.coding.proofs.TraceLaws.{message-trace, trace-message}
+use Rattle.coding.proofs.WidthLaws.{inside-wide}
+use Rattle.words.specs.Limits.{maxChecks}
+use Rattle.words.specs.Refusal.{unless, andThen, onDone}
+use Rattle.words.specs.Lists.{listAnswer}
+use Rattle.words.specs.declared.answer.Refusal.the-variants.{NoCodeword}
+use Rattle.words.specs.declared.answer.Answer.{Answer}
+use Rattle.words.specs.declared.answer.Answer.the-variants.{Done, Refused}
+use Rattle.words.proofs.ListLaws.{list-in, goes}
+use Rattle.linear.specs.Accepted.{matrixAnswer, Accepted}
+use Rattle.linear.proofs.AcceptLaws.{accepted-in}
+use Rattle.linear.proofs.TableLaws.{codeword-syndrome, one-is, back-is}
+use Rattle.encoder.specs.Encoded.{encodeAnswer, Encoded}
+use Rattle.encoder.specs.MessagesRead.{firstOther, messageAnswer, MessagesRead}
+
+module _ (n k : ℕ) (rows : List ℕ) (A : Accepted n k rows) where
+  -- so the first word whose syndrome is not 0 is the first that is no codeword
+  pub other-is : (words : List ℕ) → Inside n words
+      → first (λ i. not (eqb (syndrome (padded maxChecks (checks n rows)) (getD words i 0)) 0)) (length words) ≡ firstOther rows words
+  other-is words f = first-same _ _ (length words) (λ i h. ap not (same (getD words i 0) (f i h)))
+    where
+      same : (w : ℕ) → w < 2 ^ n → eqb (syndrome (padded maxChecks (checks n rows)) w) 0 ≡ isCodeword rows w
+      same w h = go (isCodeword rows w) refl
+        where
+          go : (b : Bool) → isCodeword rows w ≡ b → eqb (syndrome (padded maxChecks (checks n rows)) w) 0 ≡ b
+          go true e = eq-eqb _ 0 (codeword-syndrome n k rows A w h .1 (codeword-test rows w .0 e))
+          go false e = ne-eqb _ 0 (λ z. true-false (codeword-test rows w .1 (codeword-syndrome n k rows A w h .0 z)) e)
+
+  -- the messages beside the reduced rows read each codeword back
+  pub messages-are : (M : List ℕ) → Traced rows M (reduce 32 rows) → (words : List ℕ) → firstOther rows words ≡ length words
+      → map (encode M) words ≡ map (messageOf rows) words
+  messages-are M t words none = map-same (encode M) (messageOf rows) words (λ i h. sym (same (getD words i 0) (is-codeword i h)))
+    where
+      is-codeword : (i : ℕ) → i < length words → Codeword rows (getD words i 0)
+      is-codeword i h =
+          codeword-test rows (getD words i 0) .0
+          (not-false _ (first-before (λ i. not (isCodeword rows (getD words i 0))) (length words) i (rw none h)))
+
+      same : (w : ℕ) → Codeword rows w → messageOf rows w ≡ encode M w
+      same w c =
+          trace-message rows (A .independent) (encode M w) w (message-trace 32 rows M (inside-wide n 32 (omega (arith, A .range .places)) rows (A .inside)) t w c)
+
+-- what Encode and Message promise, from the answer and the slots
+module _ (n k : ℕ) (rows words before : List ℕ) (r : Answer) (after : List ℕ) where
+  pub encoded : r ≡ encodeAnswer n k rows words (length before) → after ≡ onDone r (map (encode rows) words) before
+      → Encoded n k rows words before r after
+  encoded a s = record { answer = a; slots = s; back = λ A u h. back-is n k rows A u h }
+
+  pub messages-read : r ≡ messageAnswer n k rows words (length before) → after ≡ onDone r (map (messageOf rows) words) before
+      → MessagesRead n k rows words before r after
+  messages-read a s = record { answer = a; slots = s; one = λ A w c. one-is n k rows A w c; back = λ A u h. back-is n k rows A u h }
+
+-- cause 10, from the first word that is no codeword
+module _ (rows words : List ℕ) (i : ℕ) (is : i ≡ firstOther rows words) where
+  pub other-refuses : (i ≡ length words → ⊥)
+      → Refused (NoCodeword i) ≡ unless (eqb (firstOther rows words) (length words)) (NoCodeword (firstOther rows words)) Done
+  other-refuses ne = simp (← is, ne-eqb i (length words) ne)
+
+  pub other-passes : i ≡ length words → Done ≡ unless (eqb (firstOther rows words) (length words)) (NoCodeword (firstOther rows words)) Done
+  other-passes e = simp (← is, eq-eqb i (length words) e)
+
+-- Message past causes 1 to 8: the last cause decides, and the word found by its syndrome is the first that is no codeword
+module _ (n k : ℕ) (rows words : List ℕ) (slots : ℕ) (m : matrixAnswer n k rows ≡ Done) (l : listAnswer words n slots ≡ Done) where
+  pub past : (last : Answer) → last ≡ andThen (matrixAnswer n k rows) (andThen (listAnswer words n slots) last)
+  past last = goes (listAnswer words n slots) last l ∙ goes (matrixAnswer n k rows) (andThen (listAnswer words n slots) last) m
+
+  pub other-found : (cs : List ℕ) (bad : ℕ) → cs ≡ padded maxChecks (checks n rows)
+      → bad ≡ first (λ i. not (eqb (syndrome cs (getD words i 0)) 0)) (length words) → bad ≡ firstOther rows words
+  other-found cs bad e f =
+      f ∙ ap (λ (h : List ℕ). first (λ i. not (eqb (syndrome h (getD words i 0)) 0)) (length words)) e
+      ∙ other-is n k rows (accepted-in n k rows m) words (list-in words n slots l .inside)

@@ -1,0 +1,3 @@
+// The operations Encode and Message on lists.
+pub mod encode; // Encode
+pub mod message; // Message

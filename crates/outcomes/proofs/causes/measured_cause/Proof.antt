@@ -1,0 +1,113 @@
+-- `decoder::causes::measured_cause`: the causes group by group, cause 5 by the minimum distance of the one walk. Assumes nothing.
+use mathlib.Core.Path.{_≡_, sym, ap, _∙_}
+use Prim.Native.Nat.{_≤_}
+use Rattle.coding.specs.Weight.{dmin}
+use Rattle.linear.specs.Accepted.{matrixAnswer}
+use Rattle.words.specs.declared.answer.Answer.the-variants.{Done}
+use Rattle.linear.proofs.AcceptLaws.{accepted-in}
+use Rattle.outcomes.specs.Causes.{radiusAnswer, batchAnswer}
+use Rattle.outcomes.proofs.CauseLaws.{measured-is, no-dmin, at-matrix, at-radius, at-lists}
+use borrow.Author.Needs.{needs}
+use Rattle.outcomes.proofs.causes.measured_cause.Statement.{statement}
+use Rattle.outcomes.proofs.causes.measured_cause.Tie as tie
+
+weights-of-requires : tie.Need-weights-of-requires
+weights-of-requires c κs = search needs
+
+enum-told : tie.Need-enum-told
+enum-told c = search needs
+
+enum-told-2 : tie.Need-enum-told-2
+enum-told-2 c = search needs
+
+unmeasured-requires : tie.Need-unmeasured-requires
+unmeasured-requires c κs = search needs
+
+-- causes 1 to 4 have passed
+matrix : (c : tie.After-enum-told) → matrixAnswer (c .before .before .before .before .before .args .n) (c .before .before .before .before .before .args .k) (c .before .before .before .before .before .args .rows .now) ≡ Done
+matrix c = sym (c .before .before .weights-of .ensures .answer) ∙ c .enum-told .given .1
+
+measured : (c : tie.After-enum-told) → (c .before .before .weights-of .result .dmin ≡ dmin (c .before .before .before .before .before .args .rows .now)) × (1 ≤ c .before .before .weights-of .result .dmin)
+measured c = measured-is (c .before .before .weights-of .ensures) (c .enum-told .given .1)
+
+-- cause 5 too: causes 6 to 9 decide
+listed : (c : tie.After-lists-cause)
+    → let a = c .before .before .before .before .before .before .before .before .before .args in
+    c .lists-cause .result ≡ batchAnswer (a .n) (a .k) (a .rows .now) (a .reading) (a .words .now) (a .slots) (a .bytes) (a .room)
+listed c =
+    let a = c .before .before .before .before .before .before .before .before .before .args in
+    let q = c .before .before .before .radius-test .ensures ∙ ap (radiusAnswer (a .reading)) (measured (c .before .before .before .before) .0) in
+    c .lists-cause .ensures
+    ∙ at-lists (a .n) (a .k) (a .rows .now) (a .reading) (a .words .now) (a .slots) (a .bytes) (a .room) (matrix (c .before .before .before .before)) (sym q ∙ c .before .enum-told3 .given .1)
+
+returns : tie.Need-returns
+returns c =
+    let a = c .before .before .before .before .before .before .args in
+    let u = c .unmeasured .ensures in
+    let e = c .before .enum-told2 .given .1 in (
+      u .0 ∙ e ∙ at-matrix (a .n) (a .k) (a .rows .now) (a .reading) (a .words .now) (a .slots) (a .bytes) (a .room) _ (sym (c .before .before .before .weights-of .ensures .answer) ∙ e),
+      u .1 ∙ no-dmin _ _ _ (u .0 ∙ e),
+    )
+
+radius-test-requires : tie.Need-radius-test-requires
+radius-test-requires c κs = measured c .1
+
+enum-told-3 : tie.Need-enum-told-3
+enum-told-3 c = search needs
+
+enum-told-4 : tie.Need-enum-told-4
+enum-told-4 c = search needs
+
+unmeasured-requires-2 : tie.Need-unmeasured-requires-2
+unmeasured-requires-2 c κs = search needs
+
+returns-2 : tie.Need-returns-2
+returns-2 c =
+    let a = c .before .before .before .before .before .before .before .before .before .args in
+    let u = c .unmeasured2 .ensures in
+    let e = c .before .enum-told4 .given .1 in
+    let q = c .before .before .before .radius-test .ensures ∙ ap (radiusAnswer (a .reading)) (measured (c .before .before .before .before) .0) in (
+      u .0 ∙ e ∙ at-radius (a .n) (a .k) (a .rows .now) (a .reading) (a .words .now) (a .slots) (a .bytes) (a .room) (matrix (c .before .before .before .before)) _ (sym q ∙ e),
+      u .1 ∙ no-dmin _ _ _ (u .0 ∙ e),
+    )
+
+lists-cause-requires : tie.Need-lists-cause-requires
+lists-cause-requires c κs = accepted-in _ _ _ (matrix (c .before .before .before)) .range
+
+enum-told-5 : tie.Need-enum-told-5
+enum-told-5 c = search needs
+
+enum-told-6 : tie.Need-enum-told-6
+enum-told-6 c = search needs
+
+unmeasured-requires-3 : tie.Need-unmeasured-requires-3
+unmeasured-requires-3 c κs = search needs
+
+returns-3 : tie.Need-returns-3
+returns-3 c =
+    let u = c .unmeasured3 .ensures in
+    let e = c .before .enum-told6 .given .1 in (u .0 ∙ listed (c .before .before .before), u .1 ∙ no-dmin _ _ _ (u .0 ∙ e))
+
+returns-4 : tie.Need-returns-4
+returns-4 c = (listed (c .before .before), rw (c .enum-told5 .given .1) (measured (c .before .before .before .before .before .before) .0))
+
+pub measured-cause-spec : {M : Type 1} → statement M
+measured-cause-spec =
+    tie.close
+    (tie.spec
+    weights-of-requires
+    enum-told
+    enum-told-2
+    unmeasured-requires
+    returns
+    radius-test-requires
+    enum-told-3
+    enum-told-4
+    unmeasured-requires-2
+    returns-2
+    lists-cause-requires
+    enum-told-5
+    enum-told-6
+    unmeasured-requires-3
+    returns-3
+    returns-4)

@@ -1,0 +1,38 @@
+-- `decoder::causes::radius_cause`: the minimum distance is that of the walk. Assumes nothing.
+use mathlib.Core.Path.{_≡_, ap, _∙_}
+use Prim.Native.Nat.{_≤_}
+use Rattle.coding.specs.Weight.{dmin}
+use Rattle.linear.proofs.AcceptLaws.{in-accepted}
+use Rattle.outcomes.specs.Causes.{radiusAnswer}
+use Rattle.outcomes.proofs.CauseLaws.{measured-is}
+use borrow.Author.Needs.{needs}
+use Rattle.outcomes.proofs.causes.radius_cause.Statement.{statement}
+use Rattle.outcomes.proofs.causes.radius_cause.Tie as tie
+
+enum-told : tie.Need-enum-told
+enum-told c = search needs
+
+enum-told-2 : tie.Need-enum-told-2
+enum-told-2 c = search needs
+
+returns : tie.Need-returns
+returns c = search needs
+
+weights-of-requires : tie.Need-weights-of-requires
+weights-of-requires c κs = search needs
+
+measured : (c : tie.After-weights-of) → (c .weights-of .result .dmin ≡ dmin (c .before .before .before .before .args .rows .now)) × (1 ≤ c .weights-of .result .dmin)
+measured c =
+    let s = c .before .before .before .before in
+    measured-is (c .weights-of .ensures) (c .weights-of .ensures .answer ∙ in-accepted (s .args .n) (s .args .k) (s .args .rows .now) (s .pre))
+
+radius-test-requires : tie.Need-radius-test-requires
+radius-test-requires c κs = measured c .1
+
+returns-2 : tie.Need-returns-2
+returns-2 c = c .radius-test .ensures ∙ ap (radiusAnswer (c .before .before .before .before .before .args .reading)) (measured (c .before) .0)
+
+pub radius-cause-spec : {M : Type 1} → statement M
+radius-cause-spec =
+    tie.close
+    (tie.spec enum-told enum-told-2 returns weights-of-requires radius-test-requires returns-2)

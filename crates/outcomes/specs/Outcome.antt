@@ -1,0 +1,31 @@
+-- 01, part 5: how one word ends, what it leaves in the lists, and the reading.
+use mathlib.Core.Bool.{Bool, true}
+use Prim.Native.Nat.{ℕ}
+use lib.Dec.{eqb, leb}
+use Rattle.coding.specs.Lists.{pick}
+use Rattle.coding.specs.Word.{_⊕_, weight}
+use Rattle.outcomes.specs.declared.outcome.Reading.{Reading}
+use Rattle.outcomes.specs.declared.outcome.Reading.the-variants.{Nearest, Within}
+use Rattle.outcomes.specs.declared.outcome.Outcome.{Outcome}
+use Rattle.outcomes.specs.declared.outcome.Outcome.the-variants.{Clean, Mended, Far}
+
+-- whether a reading takes a codeword that differs in d places
+abbrev pub takes : Reading → ℕ → Bool
+takes Nearest d = true
+takes (Within r) d = leb d r
+
+-- the received word w, with the leader e of its syndrome
+abbrev pub outcomeOf : Reading → ℕ → ℕ → Outcome
+outcomeOf reading w e = pick (eqb (weight e) 0) (Clean w) (pick (takes reading (weight e)) (Mended (w ⊕ e) (weight e)) Far)
+
+-- the slot of the codeword list: a far word stays as received
+abbrev pub wordIn : Outcome → ℕ → ℕ
+wordIn (Clean c) w = c
+wordIn (Mended c d) w = c
+wordIn Far w = w
+
+-- the slot of the counts: 255 means far
+abbrev pub countIn : Outcome → ℕ
+countIn (Clean c) = 0
+countIn (Mended c d) = d
+countIn Far = 255

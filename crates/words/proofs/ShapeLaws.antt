@@ -1,0 +1,105 @@
+-- Laws of causes in order, and of the causes 1 to 3. Assumes nothing.
+use mathlib.Core.Path.{_≡_, refl, ap}
+use mathlib.Core.List.{List}
+use mathlib.Core.Bool.{Bool, true, false, not}
+use Prim.Native.Nat.{ℕ, _+_, _^_}
+use native.Mathlib.Nat.{le-refl}
+use native.Mathlib.Omega.{arith}
+use lib.Dec.{eqb, leb, ltb}
+use lib.ListN.{length, getD}
+use borrow.Author.Tests.{leb-true, le-leb, eqb-true, eq-eqb, lt-ltb, ltb-true, not-false}
+use Rattle.coding.specs.Lists.{both}
+use Rattle.coding.specs.Matrix.{Inside}
+use Rattle.coding.proofs.SearchLaws.{first-is, first-before}
+use Rattle.words.specs.Limits.{maxPlaces, maxRows, maxChecks, InRange, inRange}
+use Rattle.words.specs.Refusal.{unless, andThen}
+use Rattle.words.specs.Shape.{firstOutside, shapeAnswer}
+use Rattle.words.specs.declared.answer.Refusal.{Refusal}
+use Rattle.words.specs.declared.answer.Refusal.the-variants.{OutOfRange, RowCount, RowOutside}
+use Rattle.words.specs.declared.answer.Answer.{Answer}
+use Rattle.words.specs.declared.answer.Answer.the-variants.{Done, Refused}
+
+-- ---- causes in order
+
+-- a refusal is no success
+pub refused-done : {c : Refusal} {A : Type 0} → Refused c ≡ Done → A
+refused-done e = let z : _≡_ {A = ℕ} 0 1 = cc in absurd (omega arith)
+
+-- a cause that passes: its test holds, and the later causes decide
+pub unless-done : (b : Bool) (c : Refusal) (later : Answer) → unless b c later ≡ Done → (b ≡ true) × (later ≡ Done)
+unless-done true c later e = (refl, e)
+unless-done false c later e = refused-done e
+
+pub andThen-done : (a later : Answer) → andThen a later ≡ Done → (a ≡ Done) × (later ≡ Done)
+andThen-done Done later e = (refl, e)
+andThen-done (Refused c) later e = refused-done e
+
+-- ---- cause 1
+
+both-true : (a b : Bool) → both a b ≡ true → (a ≡ true) × (b ≡ true)
+both-true true b e = (refl, e)
+both-true false b e = let z : _≡_ {A = ℕ} 0 1 = cc in absurd (omega arith)
+
+pub range-in : (n k : ℕ) → inRange n k ≡ true → InRange n k
+range-in n k e =
+    let e1 = both-true (leb 2 n) _ e in
+    let e2 = both-true (leb n maxPlaces) _ (e1 .1) in
+    let e3 = both-true (leb 1 k) _ (e2 .1) in
+    let e4 = both-true (leb k maxRows) _ (e3 .1) in
+    let e5 = both-true (leb (k + 1) n) _ (e4 .1) in
+    record {
+      places = (leb-true 2 n (e1 .0), leb-true n maxPlaces (e2 .0));
+      rows = (leb-true 1 k (e3 .0), leb-true k maxRows (e4 .0));
+      checks = (leb-true (k + 1) n (e5 .0), leb-true n (k + maxChecks) (e5 .1));
+    }
+
+pub in-range : (n k : ℕ) → InRange n k → inRange n k ≡ true
+in-range n k r =
+    simp (
+      le-leb 2 n (r .places .0),
+      le-leb n maxPlaces (r .places .1),
+      le-leb 1 k (r .rows .0),
+      le-leb k maxRows (r .rows .1),
+      le-leb (k + 1) n (r .checks .0),
+      le-leb n (k + maxChecks) (r .checks .1),
+    )
+
+-- ---- cause 3, and 7: words of n places
+
+pub outside-none : (n : ℕ) (words : List ℕ) → firstOutside n words ≡ length words → Inside n words
+outside-none n words e i h =
+    ltb-true (getD words i 0) (2 ^ n)
+    (not-false _ (first-before (λ i. not (ltb (getD words i 0) (2 ^ n))) (length words) i (rw e h)))
+
+pub inside-none : (n : ℕ) (words : List ℕ) → Inside n words → firstOutside n words ≡ length words
+inside-none n words f =
+    first-is (λ i. not (ltb (getD words i 0) (2 ^ n))) (length words) (length words) (le-refl (length words))
+    (λ j h. ap not (lt-ltb (getD words j 0) (2 ^ n) (f j h))) (λ h. absurd (omega (arith, h)))
+
+-- ---- causes 1 to 3
+
+pub record Shaped (n k : ℕ) (rows : List ℕ) : Type 0 where
+  pub range : InRange n k
+  pub count : length rows ≡ k
+  pub inside : Inside n rows
+
+pub shape-in : (n k : ℕ) (rows : List ℕ) → shapeAnswer n k rows ≡ Done → Shaped n k rows
+unfolding shapeAnswer
+shape-in n k rows e =
+    let e1 = unless-done (inRange n k) OutOfRange _ e in
+    let e2 = unless-done (eqb (length rows) k) RowCount _ (e1 .1) in
+    let e3 = unless-done (eqb (firstOutside n rows) (length rows)) (RowOutside (firstOutside n rows)) _ (e2 .1) in
+    record {
+      range = range-in n k (e1 .0);
+      count = eqb-true (length rows) k (e2 .0);
+      inside = outside-none n rows (eqb-true (firstOutside n rows) (length rows) (e3 .0));
+    }
+
+pub in-shape : (n k : ℕ) (rows : List ℕ) → Shaped n k rows → shapeAnswer n k rows ≡ Done
+unfolding shapeAnswer
+in-shape n k rows s =
+    simp (
+      in-range n k (s .range),
+      eq-eqb (length rows) k (s .count),
+      eq-eqb (firstOutside n rows) (length rows) (inside-none n rows (s .inside)),
+    )

@@ -1,0 +1,55 @@
+-- 01, "Causes and numbers": the number of each cause, the value beside it, and what a refusal leaves in a lent list.
+use mathlib.Core.List.{List, _++_}
+use mathlib.Core.Bool.{Bool, true, false}
+use Prim.Native.Nat.{ℕ}
+use lib.ListN.{length, drop}
+use Rattle.words.specs.declared.answer.Refusal.{Refusal}
+use Rattle.words.specs.declared.answer.Refusal.the-variants.{OutOfRange, RowCount, RowOutside, Dependent, RadiusTooLarge, TooManyWords, WordOutside, ShortOutput, ShortWork, NoCodeword, NoLeader}
+use Rattle.words.specs.declared.answer.Answer.{Answer}
+use Rattle.words.specs.declared.answer.Answer.the-variants.{Done, Refused}
+
+abbrev pub numberOf : Refusal → ℕ
+numberOf OutOfRange = 1
+numberOf RowCount = 2
+numberOf (RowOutside i) = 3
+numberOf (Dependent i) = 4
+numberOf RadiusTooLarge = 5
+numberOf TooManyWords = 6
+numberOf (WordOutside i) = 7
+numberOf ShortOutput = 8
+numberOf ShortWork = 9
+numberOf (NoCodeword i) = 10
+numberOf (NoLeader s) = 11
+
+abbrev pub valueOf : Refusal → ℕ
+valueOf OutOfRange = 0
+valueOf RowCount = 0
+valueOf (RowOutside i) = i
+valueOf (Dependent i) = i
+valueOf RadiusTooLarge = 0
+valueOf TooManyWords = 0
+valueOf (WordOutside i) = i
+valueOf ShortOutput = 0
+valueOf ShortWork = 0
+valueOf (NoCodeword i) = i
+valueOf (NoLeader s) = s
+
+-- the cause refuses where its test fails; otherwise the later causes decide
+abbrev pub unless : Bool → Refusal → Answer → Answer
+unless true c later = later
+unless false c later = Refused c
+
+-- the causes of one group, then those of the next
+abbrev pub andThen : Answer → Answer → Answer
+andThen Done later = later
+andThen (Refused c) later = Refused c
+
+-- a lent list at the end: the new entries and every later slot as it was, or all as it was
+abbrev pub onDone : Answer → List ℕ → List ℕ → List ℕ
+onDone Done new old = new ++ drop (length new) old
+onDone (Refused c) new old = old
+
+-- a part of an answer by value: what it holds on success, and on a refusal
+abbrev pub ifDone : {A : Type 0} → Answer → A → A → A
+ifDone Done a b = a
+ifDone (Refused c) a b = b
