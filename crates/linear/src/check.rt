@@ -6,10 +6,11 @@ use words::limits::WIDTH;
 use words::word::parity;
 use words::word::place;
 ghost use mathlib.Core.Path.{_≡_};
+ghost use mathlib.Core.Bool.{true};
 ghost use mathlib.Core.List.{map};
-ghost use Prim.Native.Nat.{_≤_};
-ghost use lib.ListN.{length, take};
-ghost use Rattle.coding.specs.Lists.{padded};
+ghost use Prim.Native.Nat.{_-_, _≤_};
+ghost use lib.ListN.{length, take, drop};
+ghost use Rattle.coding.specs.Lists.{blank, padded};
 ghost use Rattle.coding.specs.Reduced.{freesFrom};
 ghost use Rattle.coding.specs.Check.{column, check, syndrome};
 ghost use Rattle.words.specs.Limits.{maxChecks};
@@ -34,10 +35,35 @@ fn parities(checks: &[u32], w: u32) -> u32
     s
 }
 
-// Bit j is the parity of the word's places where check row j has a 1.
+// Whether every row from the fifth on is 0, as for a code with at most four check rows.
+fn few_rows(checks: &[u32]) -> bool
+    ensures { λ r. ⌜ (r ≡ true → drop 4 (now (checks .entry)) ≡ blank (length (now (checks .entry)) - 4)) ⌝ }
+{
+    let mut j: usize = 4;
+    while j < checks.len() {
+        if checks[j] != 0 {
+            return false;
+        }
+        j += 1;
+    }
+    true
+}
+
+// The parities by the first four rows.
+fn first_parities(checks: &[u32], w: u32) -> u32
+    requires { ⌜ 4 ≤ length (now checks) ⌝ }
+    ensures { λ r. ⌜ r ≡ syndrome (take 4 (now (checks .entry))) w ⌝ }
+{
+    parities(&checks[..4], w)
+}
+
+// Bit j is the parity of the word's places where check row j has a 1; a row that is 0 has parity 0.
 pub fn syndrome(checks: &[u32; MAX_CHECKS], w: u32) -> u32
     ensures { λ r. ⌜ r ≡ syndrome (now (checks .entry)) w ⌝ }
 {
+    if few_rows(checks) {
+        return first_parities(checks, w);
+    }
     parities(checks, w)
 }
 
