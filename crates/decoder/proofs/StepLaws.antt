@@ -13,9 +13,9 @@ use Rattle.coding.proofs.CountLaws.{length-tabulate}
 use Rattle.coding.proofs.MachineLaws.{shl-one}
 use Rattle.words.specs.Limits.{maxChecks}
 use Rattle.linear.specs.Accepted.{Accepted}
-use Rattle.linear.specs.Checks.{ParityChecks}
+use Rattle.checks.specs.Checks.{ParityChecks}
 use Rattle.words.specs.declared.answer.Answer.the-variants.{Done}
-use Rattle.linear.specs.declared.check.Checks.{Checks}
+use Rattle.checks.specs.declared.check.Checks.{Checks}
 use Rattle.linear.proofs.AcceptLaws.{in-accepted}
 use Rattle.decoder.specs.Built.{BuiltList}
 use Rattle.outcomes.specs.Causes.{batchAnswer}

@@ -1,7 +1,7 @@
 // Decode: a batch of received words, read as the nearest codewords or within a radius.
 use crate::leaders::build;
-use linear::check::parity_checks;
-use linear::check::syndrome;
+use checks::check::parity_checks;
+use checks::check::syndrome;
 use outcomes::causes::Measured;
 use outcomes::causes::batch_cause;
 use outcomes::causes::measured_cause;

@@ -1,6 +1,6 @@
 // Part 4: the leaders. The words are tried by rising weight, of equal weight by rising number, with the syndrome kept along by one
 // column a step; a word takes the entry of its syndrome where that is blank, and the build ends when none is.
-use linear::check::syndrome;
+use checks::check::syndrome;
 use words::limits::MAX_CHECKS;
 use words::limits::WIDTH;
 ghost use mathlib.Core.Path.{_≡_};

@@ -1,3 +1,3 @@
 pub mod AcceptLaws
-pub mod PackLaws
+mod PackLaws
 pub mod TableLaws

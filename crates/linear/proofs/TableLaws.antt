@@ -1,26 +1,24 @@
--- Laws of the table of an accepted matrix, its reduced rows in 32 places: the rows, check rows and messages that are read off it are
+-- Laws of the table of an accepted matrix, its reduced rows in 32 places: the rows and messages that are read off it are
 -- those of the definitions in n places. Assumes nothing.
 use mathlib.Core.Path.{_≡_, sym, ap, _∙_}
-use mathlib.Core.Logic.{_↔_}
 use mathlib.Core.List.{List, _++_, map}
 use Prim.Native.Nat.{ℕ, _+_, _-_, _^_, _≤_, _<_}
 use native.Mathlib.Omega.{arith}
 use lib.ListN.{length, getD, take, length-map}
 use lib.Seq.{take-at, ext-getD}
-use Rattle.coding.specs.Lists.{blank, padded}
-use Rattle.coding.specs.Word.{_⊕_}
+use Rattle.coding.specs.Lists.{blank}
 use Rattle.coding.specs.Matrix.{encode, Codeword, messageOf, IsMessage}
 use Rattle.coding.specs.Reduced.{reduce, rowsOf, freesFrom, reducedRows, Traced}
-use Rattle.coding.specs.Check.{check, column, checks, syndrome}
-use Rattle.coding.proofs.ListLaws.{getD-map, map-same}
-use Rattle.coding.proofs.ReduceLaws.{whole, syndrome-codeword}
+use Rattle.coding.proofs.ListLaws.{getD-map}
+use Rattle.coding.proofs.ReduceLaws.{whole}
 use Rattle.coding.proofs.EliminateLaws.{check-count}
 use Rattle.coding.proofs.CompactLaws.{rows-count}
-use Rattle.coding.proofs.WidthLaws.{inside-wide, reduce-wide, column-zeros, rows-zeros, syndrome-zeros}
+use Rattle.coding.proofs.WidthLaws.{inside-wide, reduce-wide, rows-zeros}
 use Rattle.coding.proofs.TraceLaws.{Trace, traced-at, trace-message, trace-is, message-back}
-use Rattle.words.specs.Limits.{maxChecks}
+use Rattle.words.specs.declared.answer.Answer.the-variants.{Done}
 use Rattle.linear.specs.Accepted.{Accepted}
-use Rattle.linear.proofs.PackLaws.{checksFrom}
+use Rattle.linear.specs.Reduction.{ReductionOf}
+use Rattle.linear.specs.declared.reduce.Reduction.{Reduction}
 
 module _ (n k : ℕ) (rows : List ℕ) (A : Accepted n k rows) where
   -- the reduced rows have an entry for each place
@@ -35,10 +33,6 @@ module _ (n k : ℕ) (rows : List ℕ) (A : Accepted n k rows) where
 
   narrow : n ≤ 32
   narrow = omega (arith, A .range .places)
-
-  -- 01, part 2: a word of n places is a codeword exactly when its syndrome is 0
-  pub codeword-syndrome : (w : ℕ) → w < 2 ^ n → (syndrome (padded maxChecks (checks n rows)) w ≡ 0) ↔ Codeword rows w
-  codeword-syndrome w h = rw (syndrome-zeros (checks n rows) (maxChecks - length (checks n rows)) w) (syndrome-codeword n rows (A .inside) w h)
 
   -- every codeword has exactly one message
   pub one-is : (w : ℕ) → Codeword rows w → IsMessage rows w (messageOf rows w)
@@ -58,7 +52,7 @@ module _ (n k : ℕ) (rows : List ℕ) (A : Accepted n k rows) where
 
   module _ (table : List ℕ) (is : table ≡ reduce 32 rows) where
     -- the table is the reduced rows in n places, and zeros
-    wide : table ≡ reduce n rows ++ blank (32 - n)
+    pub wide : table ≡ reduce n rows ++ blank (32 - n)
     wide = is ∙ reduce-wide n 32 narrow rows (A .inside)
 
     pub table-size : length table ≡ 32
@@ -67,19 +61,12 @@ module _ (n k : ℕ) (rows : List ℕ) (A : Accepted n k rows) where
     pub places-fit : n ≤ length table
     places-fit = omega (arith, table-size, narrow)
 
-    table-take : take n table ≡ reduce n rows
+    pub table-take : take n table ≡ reduce n rows
     table-take = ap (take n) wide ∙ take-at (reduce n rows) (blank (32 - n)) n places
-
-    pub checks-few : length (freesFrom 0 (take n table)) ≤ maxChecks
-    checks-few = rw table-take (omega (arith, frees-are, A .range .checks))
-
-    pub checks-are : checksFrom table n 0 ≡ checks n rows
-    checks-are =
-        ap (λ (l : List ℕ). map (check table) (freesFrom 0 l)) table-take
-        ∙ map-same (check table) (check (reduce n rows)) (freesFrom 0 (reduce n rows)) (λ i h. same (getD (freesFrom 0 (reduce n rows)) i 0))
-      where
-        same : (q : ℕ) → check table q ≡ check (reduce n rows) q
-        same q = ap (λ (x : ℕ). 2 ^ q ⊕ x) (ap (λ (l : List ℕ). column l q) wide ∙ column-zeros (reduce n rows) (32 - n) q)
 
     pub compact-is : rowsOf table ≡ reducedRows n rows
     compact-is = ap rowsOf wide ∙ rows-zeros (reduce n rows) (32 - n)
+
+-- the table of an accepted matrix
+pub table-of : {n k : ℕ} {rows : List ℕ} {r : Reduction} → ReductionOf n k rows r → r .answer ≡ Done → r .table ≡ reduce 32 rows
+table-of R d = rw d at (R .table-is)

@@ -1,4 +1,4 @@
 pub mod Accepted
 pub mod Eliminated
-pub mod Checks
+pub mod Reduction
 pub mod ReducedRows

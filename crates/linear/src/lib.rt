@@ -1,4 +1,3 @@
-// The linear algebra of any generator matrix, one file a part of document 01; each public function's contract stands at its top.
+// The reduced row echelon form of any generator matrix: document 01, part 1, and the causes 1 to 4 that it tells.
 pub mod accept; // causes 1 to 4
-pub mod check; // part 2: parity-check rows and syndromes
 pub mod reduce; // part 1: the reduced row echelon form

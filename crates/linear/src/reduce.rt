@@ -13,7 +13,8 @@ ghost use Rattle.coding.specs.Matrix.{Inside};
 ghost use Rattle.coding.specs.Lists.{padded};
 ghost use Rattle.coding.specs.Reduced.{wipes, rowsOf};
 ghost use Rattle.words.specs.Limits.{maxRows};
-ghost use Rattle.linear.specs.Eliminated.{Eliminated, ReductionOf};
+ghost use Rattle.linear.specs.Eliminated.{Eliminated};
+ghost use Rattle.linear.specs.Reduction.{ReductionOf};
 ghost use Rattle.linear.specs.ReducedRows.{ReducedRows};
 
 // Reduced rows listed by place: entry p is the row whose pivot is p, or 0. Beside each stands a message that has it as its codeword.
@@ -75,15 +76,15 @@ pub(crate) fn eliminate(rows: &[u32]) -> Elimination
     }
 }
 
-// The answer to a matrix, and where it is accepted what its elimination gave.
-pub(crate) struct Reduction {
-    pub(crate) answer: Answer,
-    pub(crate) table: [u32; WIDTH],
-    pub(crate) messages: [u32; WIDTH],
+// The answer to a matrix, and where it is accepted its reduced rows by pivot with their messages; 0 at every other entry.
+pub struct Reduction {
+    pub answer: Answer,
+    pub table: [u32; WIDTH],
+    pub messages: [u32; WIDTH],
 }
 
 // Causes 1 to 4, and the elimination that tells the fourth.
-pub(crate) fn reduce(n: u32, k: u32, rows: &[u32]) -> Reduction
+pub fn reduce(n: u32, k: u32, rows: &[u32]) -> Reduction
     ensures { λ r. ⌜ ReductionOf n k (now (rows .entry)) r ⌝ }
 {
     let a = shape(n, k, rows);

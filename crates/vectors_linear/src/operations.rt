@@ -1,11 +1,11 @@
 // One operation each, and the line that says how it ended and what every slot of the lent list holds.
 use crate::print;
 use crate::series;
+use checks::check::parity_checks;
+use checks::check::syndrome;
 use encoder::encode::encode;
 use encoder::message::message;
 use linear::accept::accept;
-use linear::check::parity_checks;
-use linear::check::syndrome;
 use linear::reduce::reduced_rows;
 
 pub(crate) fn encoded(n: u32, k: u32, rows: &[u32], messages: &[u32], out: &mut [u32]) {

@@ -1,7 +1,7 @@
 // One matrix and its lines: what Describe says of the code, and whether that fits together.
 use crate::numbers;
 use crate::print;
-use linear::check::syndrome;
+use checks::check::syndrome;
 use weights::describe::Description;
 use weights::describe::describe;
 use words::word::weight;

@@ -7,7 +7,7 @@ use Rattle.coding.specs.Weight.{weightCounts, dmin, MinimumDistance, Lightest}
 use Rattle.words.specs.Refusal.{ifDone}
 use Rattle.linear.specs.Accepted.{matrixAnswer}
 use Rattle.linear.specs.ReducedRows.{ReducedRows}
-use Rattle.linear.specs.Checks.{ParityChecks}
+use Rattle.checks.specs.Checks.{ParityChecks}
 use Rattle.words.specs.declared.answer.Answer.the-variants.{Done}
 use Rattle.weights.specs.declared.weights.Weights.{Weights}
 use Rattle.weights.specs.declared.describe.Description.{Description}

@@ -1,6 +1,6 @@
 // Describe: what a matrix's code is, by value.
 use crate::weights::weights_of;
-use linear::check::parity_checks;
+use checks::check::parity_checks;
 use linear::reduce::reduced_rows;
 use words::answer::Answer;
 use words::limits::MAX_CHECKS;

@@ -1,16 +1,18 @@
 -- `linear::reduce::reduce`: the row at which the elimination ends is the first that is a sum of earlier rows. Assumes nothing.
-use mathlib.Core.Path.{_≡_, sym, ap, _∙_}
+use mathlib.Core.Path.{_≡_, refl, sym, ap, _∙_}
 use Prim.Native.Nat.{ℕ}
 use lib.ListN.{length, take}
 use lib.Seq.{take-length}
 use Rattle.coding.specs.Matrix.{firstDependent}
-use Rattle.coding.specs.Reduced.{reduce}
+use Rattle.coding.specs.Reduced.{reduce, Traced}
 use Rattle.coding.proofs.DependLaws.{dependent-is}
 use Rattle.coding.proofs.WidthLaws.{inside-wide}
 use Rattle.words.specs.declared.answer.Refusal.the-variants.{Dependent}
-use Rattle.words.specs.declared.answer.Answer.the-variants.{Refused}
+use Rattle.words.specs.declared.answer.Answer.the-variants.{Done, Refused}
 use Rattle.words.proofs.ShapeLaws.{Shaped, shape-in, refused-done}
-use Rattle.linear.proofs.AcceptLaws.{shape-refused, ends-dependent, ends-done}
+use Rattle.linear.proofs.AcceptLaws.{shape-refused, ends-dependent, ends-done, accepted-in}
+use Rattle.linear.specs.Accepted.{matrixAnswer}
+use Rattle.linear.proofs.TableLaws.{beside-are}
 use borrow.Author.Needs.{needs}
 use native.Mathlib.Omega.{arith}
 use Rattle.linear.proofs.reduce.reduce.Statement.{statement}
@@ -31,7 +33,8 @@ returns c =
     let e = c .enum-told2 .given .1 in
     record {
       answer = e ∙ sym (shape-refused (a .n) (a .k) (a .rows .now) _ (sym (c .before .before .shape .ensures) ∙ e));
-      table = λ d. refused-done (sym e ∙ d);
+      table-is = rw e refl;
+      messages-are = rw e refl;
       traced = λ d. refused-done (sym e ∙ d);
     }
 
@@ -53,7 +56,8 @@ returns-2 c =
       answer = sym
           (ends-dependent (a .n) (a .k) (a .rows .now) (sym (t .before .before .shape .ensures) ∙ t .enum-told .given .1) (λ e. c .if1 .taken (sym d ∙ e))
           ∙ ap (λ (i : ℕ). Refused (Dependent i)) d);
-      table = λ d. refused-done d;
+      table-is = refl;
+      messages-are = refl;
       traced = λ d. refused-done d;
     }
 
@@ -66,12 +70,16 @@ returns-3 c =
     let r = e .eliminate .result in
     let E = e .eliminate .ensures in
     let l : r .rank ≡ length (a .rows .now) = c .before .before .if1 .left in
+    let m : matrixAnswer (a .n) (a .k) rows ≡ Done
+    = ends-done (a .n) (a .k) rows (sym (t .before .before .shape .ensures) ∙ t .enum-told .given .1)
+    (dependent-is rows (r .rank) (E .within) (E .before) (E .there) ∙ l) in
+    let is : r .table ≡ reduce 32 rows = E .table ∙ ap (λ (k : ℕ). reduce 32 (take k rows)) l ∙ ap (reduce 32) (take-length rows) in
+    let traced : Traced rows (r .messages) (reduce 32 rows) = rw is at (E .traced) in
     record {
-      answer = sym
-          (ends-done (a .n) (a .k) rows (sym (t .before .before .shape .ensures) ∙ t .enum-told .given .1)
-          (dependent-is rows (r .rank) (E .within) (E .before) (E .there) ∙ l));
-      table = λ _. E .table ∙ ap (λ (k : ℕ). reduce 32 (take k rows)) l ∙ ap (reduce 32) (take-length rows);
-      traced = λ _. E .traced;
+      answer = sym m;
+      table-is = is;
+      messages-are = beside-are (a .n) (a .k) rows (accepted-in (a .n) (a .k) rows m) (r .messages) traced;
+      traced = λ _. traced;
     }
 
 pub reduce-spec : {M : Type 1} → statement M

@@ -8,7 +8,7 @@ use Rattle.words.specs.Limits.{maxRows}
 use Rattle.linear.specs.Accepted.{Accepted}
 use Rattle.linear.proofs.AcceptLaws.{accepted-in}
 use Rattle.words.proofs.ShapeLaws.{refused-done}
-use Rattle.linear.proofs.TableLaws.{rows-are, compact-is}
+use Rattle.linear.proofs.TableLaws.{rows-are, compact-is, table-of}
 use borrow.Author.Needs.{needs}
 use native.Mathlib.Omega.{arith}
 use Rattle.linear.proofs.reduce.reduced_rows.Statement.{statement}
@@ -44,7 +44,7 @@ compact-requires c κs =
     let a = t .before .before .before .before .args in
     let d = t .enum-told .given .1 in
     let A : Accepted (a .n) (a .k) (a .rows .now) = accepted-in (a .n) (a .k) (a .rows .now) (sym (R .ensures .answer) ∙ d) in
-    let e = compact-is (a .n) (a .k) (a .rows .now) A (R .result .table) (R .ensures .table d) in
+    let e = compact-is (a .n) (a .k) (a .rows .now) A (R .result .table) (table-of (R .ensures) d) in
     rw e (omega (arith, rows-are (a .n) (a .k) (a .rows .now) A, A .range .rows))
 
 returns-2 : tie.Need-returns-2
@@ -57,7 +57,7 @@ returns-2 c =
     let form = reducedRows-form (a .n) (a .rows .now) (A .inside) in
     record {
       answer = sym d ∙ R .ensures .answer;
-      rows-are = c .compact .ensures ∙ ap (padded maxRows) (compact-is (a .n) (a .k) (a .rows .now) A (R .result .table) (R .ensures .table d));
+      rows-are = c .compact .ensures ∙ ap (padded maxRows) (compact-is (a .n) (a .k) (a .rows .now) A (R .result .table) (table-of (R .ensures) d));
       count = λ _. rows-are (a .n) (a .k) (a .rows .now) A;
       form = λ _. form;
       only = λ _ B P F. reducedForm-unique (a .rows .now) B (reducedRows (a .n) (a .rows .now)) P (pivots (a .n) (a .rows .now)) F form;

@@ -1,7 +1,7 @@
 -- `weights::describe::describe`: three calls on one matrix have one answer. Assumes nothing.
 use mathlib.Core.Path.{_≡_, sym, _∙_}
 use Rattle.linear.specs.ReducedRows.{ReducedRows}
-use Rattle.linear.specs.Checks.{ParityChecks}
+use Rattle.checks.specs.Checks.{ParityChecks}
 use borrow.Author.Needs.{needs}
 use Rattle.weights.proofs.describe.describe.Statement.{statement}
 use Rattle.weights.proofs.describe.describe.Tie as tie

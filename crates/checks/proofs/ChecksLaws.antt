@@ -1,0 +1,37 @@
+-- Laws of the check rows that are read off the table of an accepted matrix: they are those of the definitions in n places, and tell
+-- the codewords. Assumes nothing.
+use mathlib.Core.Path.{_≡_, ap, _∙_}
+use mathlib.Core.Logic.{_↔_}
+use mathlib.Core.List.{List, map}
+use Prim.Native.Nat.{ℕ, _-_, _^_, _≤_, _<_}
+use native.Mathlib.Omega.{arith}
+use lib.ListN.{length, getD, take}
+use Rattle.coding.specs.Lists.{padded}
+use Rattle.coding.specs.Word.{_⊕_}
+use Rattle.coding.specs.Matrix.{Codeword}
+use Rattle.coding.specs.Reduced.{reduce, freesFrom}
+use Rattle.coding.specs.Check.{check, column, checks, syndrome}
+use Rattle.coding.proofs.ListLaws.{map-same}
+use Rattle.coding.proofs.ReduceLaws.{syndrome-codeword}
+use Rattle.coding.proofs.WidthLaws.{column-zeros, syndrome-zeros}
+use Rattle.words.specs.Limits.{maxChecks}
+use Rattle.linear.specs.Accepted.{Accepted}
+use Rattle.linear.proofs.TableLaws.{frees-are, wide, table-take}
+use Rattle.checks.proofs.PackLaws.{checksFrom}
+
+module _ (n k : ℕ) (rows : List ℕ) (A : Accepted n k rows) where
+  -- 01, part 2: a word of n places is a codeword exactly when its syndrome is 0
+  pub codeword-syndrome : (w : ℕ) → w < 2 ^ n → (syndrome (padded maxChecks (checks n rows)) w ≡ 0) ↔ Codeword rows w
+  codeword-syndrome w h = rw (syndrome-zeros (checks n rows) (maxChecks - length (checks n rows)) w) (syndrome-codeword n rows (A .inside) w h)
+
+  module _ (table : List ℕ) (is : table ≡ reduce 32 rows) where
+    pub checks-few : length (freesFrom 0 (take n table)) ≤ maxChecks
+    checks-few = rw (table-take n k rows A table is) (omega (arith, frees-are n k rows A, A .range .checks))
+
+    pub checks-are : checksFrom table n 0 ≡ checks n rows
+    checks-are =
+        ap (λ (l : List ℕ). map (check table) (freesFrom 0 l)) (table-take n k rows A table is)
+        ∙ map-same (check table) (check (reduce n rows)) (freesFrom 0 (reduce n rows)) (λ i h. same (getD (freesFrom 0 (reduce n rows)) i 0))
+      where
+        same : (q : ℕ) → check table q ≡ check (reduce n rows) q
+        same q = ap (λ (x : ℕ). 2 ^ q ⊕ x) (ap (λ (l : List ℕ). column l q) (wide n k rows A table is) ∙ column-zeros (reduce n rows) (32 - n) q)

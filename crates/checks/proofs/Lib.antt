@@ -1,0 +1,2 @@
+mod PackLaws
+pub mod ChecksLaws

@@ -1,0 +1,69 @@
+-- `linear::check::code_of`: the table of an accepted matrix gives the check rows of the definition. Assumes nothing.
+use mathlib.Core.Path.{refl, sym, ap, _∙_}
+use Rattle.coding.specs.Lists.{padded}
+use Rattle.words.specs.Limits.{maxChecks}
+use Rattle.linear.specs.Accepted.{Accepted}
+use Rattle.linear.proofs.AcceptLaws.{accepted-in}
+use Rattle.words.proofs.ShapeLaws.{refused-done}
+use Rattle.linear.proofs.TableLaws.{table-size, table-of}
+use Rattle.checks.proofs.ChecksLaws.{checks-few, checks-are}
+use borrow.Author.Needs.{needs}
+use native.Mathlib.Omega.{arith}
+use Rattle.checks.proofs.check.code_of.Statement.{statement}
+use Rattle.checks.proofs.check.code_of.Tie as tie
+
+reduce-requires : tie.Need-reduce-requires
+reduce-requires c κs = search needs
+
+enum-told : tie.Need-enum-told
+enum-told c = search needs
+
+enum-told-2 : tie.Need-enum-told-2
+enum-told-2 c = search needs
+
+returns : tie.Need-returns
+returns c =
+    let e = c .enum-told2 .given .1 in
+    record { answer = c .before .before .reduce .ensures .answer; checks-are = rw e refl; messages-are = rw e refl; traced = λ d. refused-done (sym e ∙ d) }
+
+slice-aggregate-check-rows : tie.Need-slice-aggregate-check-rows
+slice-aggregate-check-rows c = search needs
+
+check-rows-requires : tie.Need-check-rows-requires
+check-rows-requires c κs =
+    let t = c .before .before in
+    let R = t .before .before .reduce in
+    let a = t .before .before .before .before .args in
+    let d = t .enum-told .given .1 in
+    let A : Accepted (a .n) (a .k) (a .rows .now) = accepted-in (a .n) (a .k) (a .rows .now) (sym (R .ensures .answer) ∙ d) in (
+      table-size (a .n) (a .k) (a .rows .now) A (R .result .table) (table-of (R .ensures) d),
+      omega (arith, A .range .places),
+      checks-few (a .n) (a .k) (a .rows .now) A (R .result .table) (table-of (R .ensures) d),
+    )
+
+returns-2 : tie.Need-returns-2
+returns-2 c =
+    let q = c .before in
+    let t = q .before .before .before in
+    let R = t .before .before .reduce in
+    let a = t .before .before .before .before .args in
+    let d = t .enum-told .given .1 in
+    let A : Accepted (a .n) (a .k) (a .rows .now) = accepted-in (a .n) (a .k) (a .rows .now) (sym (R .ensures .answer) ∙ d) in
+    record {
+      answer = sym d ∙ R .ensures .answer;
+      checks-are = q .check-rows .ensures ∙ ap (padded maxChecks) (checks-are (a .n) (a .k) (a .rows .now) A (R .result .table) (table-of (R .ensures) d));
+      messages-are = rw d at (R .ensures .messages-are);
+      traced = λ _. R .ensures .traced d;
+    }
+
+pub code-of-spec : {M : Type 1} → statement M
+code-of-spec =
+    tie.close
+    (tie.spec
+    reduce-requires
+    enum-told
+    enum-told-2
+    returns
+    slice-aggregate-check-rows
+    check-rows-requires
+    returns-2)

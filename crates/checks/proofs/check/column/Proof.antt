@@ -1,0 +1,80 @@
+-- `linear::check::column`: c holds place q of the rows from p on. Assumes nothing.
+use mathlib.Core.Path.{_≡_, refl, sym, ap, _∙_}
+use Prim.Native.Nat.{ℕ, _*_, _+_, _^_, _≤_, _<_, _-_}
+use lib.ListN.{length, getD, drop}
+use lib.Seq.{drop-length}
+use Rattle.coding.specs.Check.{places}
+use Rattle.coding.proofs.CheckLaws.{places-back, places-fit}
+use Rattle.coding.specs.Word.{bit}
+use Rattle.coding.proofs.WordLaws.{bit-lt}
+use borrow.Author.Needs.{needs}
+use native.Mathlib.Omega.{arith}
+use Rattle.checks.proofs.check.column.Statement.{statement}
+use Rattle.checks.proofs.check.column.Tie as tie
+
+abbrev Inv-loop : tie.InvT-loop
+Inv-loop rows q c₀ p₀ c p = (p ≤ length rows) × (c ≡ places (λ r. bit r q) (drop p rows))
+
+abbrev μ-loop : tie.MeasureT-loop
+μ-loop rows q c₀ p₀ c p = p
+
+loop-holds : tie.Need-loop-holds Inv-loop μ-loop
+loop-holds c = (search needs, sym (ap (places (λ r. bit r (c .before .args .q))) (drop-length (c .before .args .rows .now))))
+
+sub-p : tie.Need-sub-p Inv-loop μ-loop
+sub-p c = search needs
+
+mul-c : tie.Need-mul-c Inv-loop μ-loop
+mul-c c =
+    let l = c .before .loop in
+    let s = c .before .before .before in
+    let fit = places-fit (λ r. bit r (s .args .q)) (s .args .rows .now) (l .p) (c .loop-test .taken) (l .inv .0) (λ r. bit-lt r (s .args .q)) 32 (s .pre) in
+    record { fits = omega (arith, fit, l .inv .1) }
+
+mul-place : tie.Need-mul-place Inv-loop μ-loop
+mul-place c = search needs
+
+shared-slice-read-place : tie.Need-shared-slice-read-place Inv-loop μ-loop
+shared-slice-read-place c = search needs
+
+place-requires : tie.Need-place-requires Inv-loop μ-loop
+place-requires c κs = search needs
+
+add-c : tie.Need-add-c Inv-loop μ-loop
+add-c c =
+    let l = c .before .before .before .loop in
+    let s = c .before .before .before .before .before in
+    let fit = places-fit (λ r. bit r (s .args .q)) (s .args .rows .now) (l .p) (c .before .before .loop-test .taken) (l .inv .0) (λ r. bit-lt r (s .args .q)) 32 (s .pre) in
+    record { fits = omega (arith, fit, l .inv .1, c .place .ensures) }
+
+loop-less : tie.Need-loop-less Inv-loop μ-loop
+loop-less c = search needs
+
+loop-again : tie.Need-loop-again Inv-loop μ-loop
+loop-again c =
+    let l = c .before .before .before .loop in
+    let s = c .before .before .before .before .before in
+    let back = places-back (λ r. bit r (s .args .q)) (s .args .rows .now) (l .p) (c .before .before .loop-test .taken) (l .inv .0) in
+    (search needs, omega (arith, back, l .inv .1, c .place .ensures))
+
+returns : tie.Need-returns Inv-loop μ-loop
+returns c =
+    let e : c .before .loop .p ≡ 0 = omega (arith, c .loop-test .left) in
+    rw e at (c .before .loop .inv .1)
+
+pub column-spec : {M : Type 1} → statement M
+column-spec =
+    tie.close
+    (tie.spec
+    Inv-loop
+    μ-loop
+    loop-holds
+    sub-p
+    mul-c
+    mul-place
+    shared-slice-read-place
+    place-requires
+    add-c
+    loop-less
+    loop-again
+    returns)

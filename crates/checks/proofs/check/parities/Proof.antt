@@ -1,0 +1,80 @@
+-- `linear::check::parities`: s holds the parities by the check rows from j on. Assumes nothing.
+use mathlib.Core.Path.{_≡_, refl, sym, ap, _∙_}
+use Prim.Native.Nat.{ℕ, _*_, _+_, _^_, _≤_, _<_, _-_}
+use lib.ListN.{length, getD, drop}
+use lib.Seq.{drop-length}
+use Rattle.coding.specs.Check.{places}
+use Rattle.coding.proofs.CheckLaws.{places-back, places-fit}
+use Rattle.coding.specs.Word.{parity}
+use Rattle.coding.proofs.WeightLaws.{parity-lt}
+use borrow.Author.Needs.{needs}
+use native.Mathlib.Omega.{arith}
+use Rattle.checks.proofs.check.parities.Statement.{statement}
+use Rattle.checks.proofs.check.parities.Tie as tie
+
+abbrev Inv-loop : tie.InvT-loop
+Inv-loop checks w s₀ j₀ s j = (j ≤ length checks) × (s ≡ places (parity w) (drop j checks))
+
+abbrev μ-loop : tie.MeasureT-loop
+μ-loop checks w s₀ j₀ s j = j
+
+loop-holds : tie.Need-loop-holds Inv-loop μ-loop
+loop-holds c = (search needs, sym (ap (places (parity (c .before .args .w))) (drop-length (c .before .args .checks .now))))
+
+sub-j : tie.Need-sub-j Inv-loop μ-loop
+sub-j c = search needs
+
+mul-s : tie.Need-mul-s Inv-loop μ-loop
+mul-s c =
+    let l = c .before .loop in
+    let s = c .before .before .before in
+    let fit = places-fit (parity (s .args .w)) (s .args .checks .now) (l .j) (c .loop-test .taken) (l .inv .0) (parity-lt (s .args .w)) 32 (s .pre) in
+    record { fits = omega (arith, fit, l .inv .1) }
+
+mul-parity : tie.Need-mul-parity Inv-loop μ-loop
+mul-parity c = search needs
+
+shared-slice-read-parity : tie.Need-shared-slice-read-parity Inv-loop μ-loop
+shared-slice-read-parity c = search needs
+
+parity-requires : tie.Need-parity-requires Inv-loop μ-loop
+parity-requires c κs = search needs
+
+add-s : tie.Need-add-s Inv-loop μ-loop
+add-s c =
+    let l = c .before .before .before .loop in
+    let s = c .before .before .before .before .before in
+    let fit = places-fit (parity (s .args .w)) (s .args .checks .now) (l .j) (c .before .before .loop-test .taken) (l .inv .0) (parity-lt (s .args .w)) 32 (s .pre) in
+    record { fits = omega (arith, fit, l .inv .1, c .parity .ensures) }
+
+loop-less : tie.Need-loop-less Inv-loop μ-loop
+loop-less c = search needs
+
+loop-again : tie.Need-loop-again Inv-loop μ-loop
+loop-again c =
+    let l = c .before .before .before .loop in
+    let s = c .before .before .before .before .before in
+    let back = places-back (parity (s .args .w)) (s .args .checks .now) (l .j) (c .before .before .loop-test .taken) (l .inv .0) in
+    (search needs, omega (arith, back, l .inv .1, c .parity .ensures))
+
+returns : tie.Need-returns Inv-loop μ-loop
+returns c =
+    let e : c .before .loop .j ≡ 0 = omega (arith, c .loop-test .left) in
+    rw e at (c .before .loop .inv .1)
+
+pub parities-spec : {M : Type 1} → statement M
+parities-spec =
+    tie.close
+    (tie.spec
+    Inv-loop
+    μ-loop
+    loop-holds
+    sub-j
+    mul-s
+    mul-parity
+    shared-slice-read-parity
+    parity-requires
+    add-s
+    loop-less
+    loop-again
+    returns)
