@@ -1,89 +1,10 @@
 #!/usr/bin/env python3
-"""The sheets of crates/vectors_sheet (argument "stdin") and what the program prints for them, from document 01 alone."""
+"""The sheets of crates/vectors_sheet (argument "stdin") and what the program prints for them, from document 01 alone (codes.py)."""
 import random
 import sys
 from itertools import combinations
 
-# ---- 01, parts 1 to 5: a code by its parity checks, kept as columns
-def weight(w):
-    return bin(w).count('1')
-
-def first_dependent(rows):
-    span = {0}
-    for i, r in enumerate(rows):
-        if r in span:
-            return i
-        span |= {s ^ r for s in span}
-    return None
-
-def codewords(rows):
-    out = [0]
-    for r in rows:
-        out += [c ^ r for c in out]
-    return out
-
-def dmin(rows):
-    return min(weight(c) for c in codewords(rows)[1:])
-
-def columns(n, rows):
-    """The syndromes of the single ones."""
-    rows, pivots = list(rows), []
-    for p in range(n):
-        i = len(pivots)
-        s = next((a for a in range(i, len(rows)) if rows[a] >> p & 1), None)
-        if s is None:
-            continue
-        rows[i], rows[s] = rows[s], rows[i]
-        rows = [r ^ rows[i] if a != i and r >> p & 1 else r for a, r in enumerate(rows)]
-        pivots.append(p)
-    free = [p for p in range(n) if p not in pivots]
-    cols = [0] * n
-    for j, p in enumerate(free):
-        cols[p] |= 1 << j
-        for i, q in enumerate(pivots):
-            cols[q] |= (rows[i] >> p & 1) << j
-    return cols
-
-def syndrome(cols, w):
-    s = 0
-    for p, c in enumerate(cols):
-        if w >> p & 1:
-            s ^= c
-    return s
-
-def leaders(n, k, cols):
-    best, t = {}, 0
-    while len(best) < 1 << (n - k):
-        new = {}
-        for places in combinations(range(n), t):
-            w = sum(1 << p for p in places)
-            s = syndrome(cols, w)
-            if s not in best:
-                new[s] = min(w, new.get(s, w))
-        best.update(new)
-        t += 1
-    return best
-
-# ---- causes 1 to 7; 8, 9 and 11 do not arise
-def cause(n, k, rows, radius, words):
-    if not (2 <= n <= 28 and 1 <= k <= 16 and 1 <= n - k <= 12):
-        return 1, 0
-    if len(rows) != k:
-        return 2, 0
-    for i, r in enumerate(rows):
-        if r >> n:
-            return 3, i
-    i = first_dependent(rows)
-    if i is not None:
-        return 4, i
-    if radius is not None and 2 * radius + 1 > dmin(rows):
-        return 5, 0
-    if len(words) > 512:
-        return 6, 0
-    for i, w in enumerate(words):
-        if w >> n:
-            return 7, i
-    return None
+from codes import decode, dmin
 
 # ---- the code sheet
 class Refused(Exception):
@@ -118,23 +39,16 @@ def digits(n, w):
 def output(s):
     try:
         f = fields(s)
-        n, k, rows, words = f[1][0], f[2][0], numbers(f[3]), numbers(f[5])
-        radius = f[4][0] if 4 in f else None
-        c = cause(n, k, rows, radius, words)
+        n, k, rows, words = f[1][0], f[2][0], tuple(numbers(f[3])), numbers(f[5])
+        out, counts = [0] * len(words), [0] * len(words)
+        c = decode(n, k, rows, f[4][0] if 4 in f else None, words, out, counts, [0] * 4096)
         if c:
             raise Refused(*c)
     except Refused as r:
         return 'refused %d %d\n' % r.args
     d = dmin(rows)
-    cols = columns(n, rows)
-    best = leaders(n, k, cols)
     lines = ['%d %d %d %d' % (n, k, d, (d - 1) // 2)]
-    for w in words:
-        e = best[syndrome(cols, w)]
-        if radius is not None and weight(e) > radius:
-            lines.append(digits(n, w) + ' far')
-        else:
-            lines.append('%s %d' % (digits(n, w ^ e), weight(e)))
+    lines += ['%s %s' % (digits(n, w), 'far' if count == 255 else count) for w, count in zip(out, counts)]
     return '\n'.join(lines) + '\n'
 
 # ---- sheets
@@ -171,7 +85,7 @@ def systematic(rng, n, k, density=0.5):
         for b in range(k):
             if a != b and rng.random() < 0.5:
                 rows[a] ^= rows[b]
-    return rows
+    return tuple(rows)
 
 def worked():
     case('the worked sheet', WORKED)

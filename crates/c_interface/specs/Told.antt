@@ -1,0 +1,22 @@
+-- How a call tells its answer to a program in another language: 0 or the number of the cause, and the value beside it.
+use mathlib.Core.Path.{_≡_}
+use Prim.Native.Nat.{ℕ}
+use Rattle.words.specs.Refusal.{numberOf, valueOf}
+use Rattle.words.specs.declared.answer.Answer.{Answer}
+use Rattle.words.specs.declared.answer.Answer.the-variants.{Done, Refused}
+
+abbrev pub numberIn : Answer → ℕ
+numberIn Done = 0
+numberIn (Refused c) = numberOf c
+
+abbrev pub valueIn : Answer → ℕ
+valueIn Done = 0
+valueIn (Refused c) = valueOf c
+
+-- number and value are those of an answer of which the statement holds; where it holds of one answer only, as each statement used here,
+-- it fixes both (ToldLaws, told-is)
+pub record Told (holds : Answer → Type 0) (number value : ℕ) : Type 0 where
+  pub answer : Answer
+  pub number-is : number ≡ numberIn answer
+  pub value-is : value ≡ valueIn answer
+  pub holds-of : holds answer

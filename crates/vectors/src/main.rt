@@ -1,0 +1,25 @@
+// Test vectors of the crates linear, weights, decoder, golay and hsiao: each record of standard input is one call, and its line says
+// how the call ended and what every lent list holds afterwards. The stored input and output, which reference/vectors.py makes from
+// document 01 alone, decide.
+mod batch_calls; // operations on a matrix and a batch of words
+mod golay_calls; // operations of the extended Golay code
+mod golay_patterns; // every message and every error pattern of it
+mod hsiao_calls; // operations of the (72,64) code
+mod hsiao_changes; // its words changed in up to three places
+mod matrix_calls; // operations on a matrix
+mod number_calls; // operations on two words or numbers
+mod print; // what a line is made of
+mod records; // what a record is made of
+
+// More records than the input has.
+const MAX_RECORDS: usize = 100000;
+
+fn main() {
+    let mut left = MAX_RECORDS;
+    while 0 < left {
+        if !records::record() {
+            return;
+        }
+        left -= 1;
+    }
+}

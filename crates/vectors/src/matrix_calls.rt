@@ -1,0 +1,75 @@
+// Operations 10 to 16, on a matrix and a word x.
+use crate::print;
+use crate::print::answer;
+use crate::print::item;
+use checks::check::parity_checks;
+use checks::check::syndrome;
+use linear::accept::accept;
+use linear::reduce::reduced_rows;
+use weights::describe::describe;
+use weights::weights::weights_of;
+use words::sums::row_sum;
+use words::word::weight;
+
+fn reduced(n: u32, k: u32, rows: &[u32]) {
+    let r = reduced_rows(n, k, rows);
+    let a = r.answer;
+    let reduced = r.rows;
+    answer(a);
+    print::rows(&reduced);
+}
+
+// The syndrome of the word, and the check rows.
+fn checked(n: u32, k: u32, rows: &[u32], w: u32) {
+    let c = parity_checks(n, k, rows);
+    let a = c.answer;
+    let checks = c.rows;
+    answer(a);
+    item(syndrome(&checks, w));
+    print::checks(&checks);
+}
+
+// The minimum distance, the weight of the lightest codeword, and the counts.
+fn weighed(n: u32, k: u32, rows: &[u32]) {
+    let w = weights_of(n, k, rows);
+    let a = w.answer;
+    let counts = w.counts;
+    answer(a);
+    item(w.dmin);
+    item(weight(w.lightest));
+    print::weights(&counts);
+}
+
+// The lightest codeword itself, for codes that have but one.
+fn lightest(n: u32, k: u32, rows: &[u32]) -> u32 {
+    let w = weights_of(n, k, rows);
+    w.lightest
+}
+
+// The minimum distance, the weight and the syndrome of the lightest codeword, which may be any of several, and the lists.
+fn described(n: u32, k: u32, rows: &[u32]) {
+    let d = describe(n, k, rows);
+    let a = d.answer;
+    let reduced = d.rows;
+    let checks = d.checks;
+    let counts = d.counts;
+    answer(a);
+    item(d.dmin);
+    item(weight(d.lightest));
+    item(syndrome(&checks, d.lightest));
+    print::rows(&reduced);
+    print::checks(&checks);
+    print::weights(&counts);
+}
+
+pub(crate) fn call(operation: u8, n: u32, k: u32, x: u32, rows: &[u32]) {
+    match operation {
+        10 => answer(accept(n, k, rows)),
+        11 => reduced(n, k, rows),
+        12 => checked(n, k, rows, x),
+        13 => item(row_sum(rows, x)),
+        14 => weighed(n, k, rows),
+        15 => item(lightest(n, k, rows)),
+        _ => described(n, k, rows),
+    }
+}

@@ -1,0 +1,216 @@
+"""Binary linear block codes as document 01 defines them, by walks over all codewords and all words.
+
+A word is the number whose bit i is place i. A cause is a pair of its number and the value beside it, or None. Rows are a tuple.
+"""
+from functools import lru_cache
+from itertools import combinations
+
+WIDTH = 32
+
+
+def word(digits):
+    """Place 0 is written leftmost."""
+    return sum(1 << i for i, d in enumerate(digits) if d == '1')
+
+
+def weight(w):
+    return bin(w).count('1')
+
+
+def row_sum(rows, message):
+    w = 0
+    for i, g in enumerate(rows):
+        if message >> i & 1:
+            w ^= g
+    return w
+
+
+@lru_cache(maxsize=None)
+def codewords(rows):
+    """Entry u is the codeword of message u."""
+    out = [0]
+    for g in rows:
+        out += [c ^ g for c in out]
+    return out
+
+
+def nonzero(rows):
+    return codewords(rows)[1:]
+
+
+def dmin(rows):
+    return min(map(weight, nonzero(rows)))
+
+
+def lightest(rows):
+    d = dmin(rows)
+    return [w for w in nonzero(rows) if weight(w) == d]
+
+
+def weight_counts(words):
+    counts = [0] * (WIDTH + 1)
+    for w in words:
+        counts[weight(w)] += 1
+    return counts
+
+
+# ---- parts 1 and 2
+def first_dependent(rows):
+    """The first row that is a sum of earlier rows, or None."""
+    for i, g in enumerate(rows):
+        if g in set(codewords(rows[:i])):
+            return i
+    return None
+
+
+def leftmost(w):
+    return next(p for p in range(WIDTH) if w >> p & 1)
+
+
+@lru_cache(maxsize=None)
+def pivots(rows):
+    """The places where some codeword has its leftmost one."""
+    out = sorted({leftmost(w) for w in nonzero(rows)})
+    assert len(out) == len(rows)
+    return out
+
+
+@lru_cache(maxsize=None)
+def reduced(rows):
+    """Row i is the one codeword that is 1 at pivot i and 0 at the other pivots."""
+    mask = sum(1 << p for p in pivots(rows))
+    found = {p: [w for w in codewords(rows) if w & mask == 1 << p] for p in pivots(rows)}
+    assert all(len(ws) == 1 and leftmost(ws[0]) == p for p, ws in found.items())
+    out = [found[p][0] for p in pivots(rows)]
+    assert out == eliminated(rows)
+    return out
+
+
+def eliminated(rows):
+    """A second opinion: elimination place by place, with a swap of rows."""
+    m, i = list(rows), 0
+    for p in range(WIDTH):
+        s = next((a for a in range(i, len(m)) if m[a] >> p & 1), None)
+        if s is None:
+            continue
+        m[i], m[s] = m[s], m[i]
+        m = [r ^ m[i] if a != i and r >> p & 1 else r for a, r in enumerate(m)]
+        i += 1
+    return m
+
+
+@lru_cache(maxsize=None)
+def check_rows(n, rows):
+    out = []
+    for q in range(n):
+        if q not in pivots(rows):
+            out.append(1 << q | sum((r >> q & 1) << p for r, p in zip(reduced(rows), pivots(rows))))
+    assert len(out) == n - len(rows)
+    assert all(weight(g & h) % 2 == 0 for g in rows for h in out)
+    return out
+
+
+def syndrome(checks, w):
+    return sum((weight(w & h) & 1) << j for j, h in enumerate(checks))
+
+
+# ---- part 4
+def order(e):
+    return weight(e), e
+
+
+@lru_cache(maxsize=None)
+def leaders(n, rows):
+    """For each syndrome the least word by weight, then by number: weight after weight, until every syndrome has one."""
+    checks = check_rows(n, rows)
+    columns = [syndrome(checks, 1 << p) for p in range(n)]
+    best = {}
+    for t in range(n + 1):
+        new = {}
+        for places in combinations(range(n), t):
+            s = w = 0
+            for p in places:
+                s ^= columns[p]
+                w |= 1 << p
+            if s not in best:
+                new[s] = min(w, new.get(s, w))
+        best.update(new)
+        if len(best) == 1 << len(checks):
+            return [best[s] for s in range(1 << len(checks))]
+
+
+@lru_cache(maxsize=None)
+def leader(rows, w):
+    """Of the sums of the word and a codeword the lightest, of several the smallest number."""
+    return min((w ^ c for c in codewords(rows)), key=order)
+
+
+# ---- the causes
+def in_range(n, k):
+    return 2 <= n <= 28 and 1 <= k <= 16 and 1 <= n - k <= 12
+
+
+@lru_cache(maxsize=None)
+def matrix_cause(n, k, rows):
+    if not in_range(n, k):
+        return 1, 0
+    if len(rows) != k:
+        return 2, 0
+    for i, g in enumerate(rows):
+        if g >= 2 ** n:
+            return 3, i
+    i = first_dependent(rows)
+    return None if i is None else (4, i)
+
+
+def radius_cause(rows, radius):
+    return (5, 0) if radius is not None and 2 * radius + 1 > dmin(rows) else None
+
+
+def list_cause(words, places, slots):
+    if len(words) > 512:
+        return 6, 0
+    for i, w in enumerate(words):
+        if w >= 2 ** places:
+            return 7, i
+    return (8, 0) if slots < len(words) else None
+
+
+# ---- the operations on lists: the cause, or None and the lent lists are written
+def encode(n, k, rows, words, out):
+    cause = matrix_cause(n, k, rows) or list_cause(words, k, len(out))
+    if cause is None:
+        out[:len(words)] = [row_sum(rows, u) for u in words]
+    return cause
+
+
+def message(n, k, rows, words, out):
+    cause = matrix_cause(n, k, rows) or list_cause(words, n, len(out))
+    if cause:
+        return cause
+    messages = {c: u for u, c in enumerate(codewords(rows))}
+    for i, w in enumerate(words):
+        if w not in messages:
+            return 10, i
+    out[:len(words)] = [messages[w] for w in words]
+    return None
+
+
+def decode(n, k, rows, radius, words, out, counts, work):
+    """A radius of None is the nearest reading."""
+    cause = (matrix_cause(n, k, rows) or radius_cause(rows, radius)
+             or list_cause(words, n, min(len(out), len(counts)))
+             or ((9, 0) if len(work) < 2 ** (n - k) else None))
+    if cause:
+        return cause
+    work[:2 ** (n - k)] = leaders(n, rows)
+    checks = check_rows(n, rows)
+    for i, w in enumerate(words):
+        e = leaders(n, rows)[syndrome(checks, w)]
+        # the walk over all codewords; of the largest codes for some words only
+        assert k > 12 and i % 128 != 7 or e == leader(rows, w)
+        if radius is not None and weight(e) > radius:
+            out[i], counts[i] = w, 255
+        else:
+            out[i], counts[i] = w ^ e, weight(e)
+    return None

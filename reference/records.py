@@ -1,0 +1,169 @@
+"""The records of crates/vectors and what the program prints for each, by the definitions of codes.py."""
+from codes import check_rows, codewords, decode, dmin, encode, lightest, matrix_cause, message, reduced, row_sum, syndrome, weight_counts
+
+MARKS = 777, 77, 7777             # what each slot holds that is lent: of a list of words, of counts, of a working list
+NEAREST = None                    # a reading is that or a radius
+RECORDS, LINES = [], []
+
+
+# ---- records and lines
+def four(*numbers):
+    return b''.join(x.to_bytes(4, 'big') for x in numbers)
+
+
+def written(text, operation):
+    """Parts of 16 bytes, each a record with operation 0; the last has the operation. The program prints them."""
+    text = text.ljust(-(-len(text) // 16) * 16)
+    for i in range(0, len(text), 16):
+        RECORDS.append(text[i:i + 16].encode() + bytes([operation if i + 16 == len(text) else 0]))
+    LINES.append(text)
+
+
+def title(text):
+    written('\n' + '-' * (16 - (len(text) + 2) % 16) + ' ' + text, 0)
+
+
+OPERATIONS = {'sum': 1, 'weight': 2, 'distance': 3, 'parity': 4, 'place': 5, 'selected': 6, 'masked': 7, 'fits': 8, 'in range': 9,
+              'accept': 10, 'reduced': 11, 'checks': 12, 'row sum': 13, 'weights': 14, 'lightest': 15, 'describe': 16,
+              'encode': 20, 'message': 21, 'nearest': 22, 'within': 23, 'again': 24,
+              'Golay encode': 30, 'Golay decode': 31, 'Golay message': 32, 'Golay messages': 33, 'Golay patterns': 34,
+              '(72,64) encode': 40, '(72,64) decode': 41, '(72,64) counts': 42, '(72,64) changes': 43}
+
+
+def record(name, n, k, x, rows, rest, printed):
+    """Three numbers and the rows, and for a batch the words and how many slots are lent."""
+    written(f'\n{name} {n} {k} {x}:', OPERATIONS[name])
+    RECORDS.append(four(n, k, x, len(rows), *rows, *rest))
+    LINES.append(printed)
+
+
+def said(cause):
+    return ' done' if cause is None else ' refused %d %d' % cause
+
+
+def items(xs):
+    return ''.join(f' {x}' for x in xs)
+
+
+def digest(xs):
+    h = 1
+    for x in xs:
+        h = (h * 31 + x) % 2**32
+    return h
+
+
+def listed(xs, mark):
+    return ',' + (items(xs) if len(xs) <= 40 else f' kept {xs.count(mark)} {digest(xs)}')
+
+
+def padded(xs, size):
+    return list(xs) + [0] * (size - len(xs))
+
+
+# ---- operations on two numbers
+def numbers(name, a, b, result):
+    record(name, a, b, 0, (), (), f' {int(result)}')
+
+
+def bit(w, p):
+    return w >> p & 1
+
+
+def inside(w, n):
+    return not any(bit(w, p) for p in range(32) if p >= n)
+
+
+# ---- operations on a matrix
+def accept(n, k, rows):
+    record('accept', n, k, 0, rows, (), said(matrix_cause(n, k, rows)))
+
+
+def rows_part(n, k, rows):
+    return ', rows' + items(padded([] if matrix_cause(n, k, rows) else reduced(rows), 16))
+
+
+def checks_part(n, k, rows):
+    return ', checks' + items(padded([] if matrix_cause(n, k, rows) else check_rows(n, rows), 12))
+
+
+def weights_part(n, k, rows):
+    return ', weights' + items([0] * 33 if matrix_cause(n, k, rows) else weight_counts(codewords(rows)))
+
+
+def reduced_call(n, k, rows):
+    record('reduced', n, k, 0, rows, (), said(matrix_cause(n, k, rows)) + rows_part(n, k, rows))
+
+
+def checks_call(n, k, rows, x=0):
+    c = matrix_cause(n, k, rows)
+    s = 0 if c else syndrome(check_rows(n, rows), x)
+    assert c or x >= 2**n or (s == 0) == (x in codewords(rows))
+    record('checks', n, k, x, rows, (), f'{said(c)} {s}' + checks_part(n, k, rows))
+
+
+def row_sum_call(rows, x):
+    record('row sum', 0, 0, x, rows, (), f' {row_sum(rows, x)}')
+
+
+def weights_call(n, k, rows):
+    c = matrix_cause(n, k, rows)
+    d = 0 if c else dmin(rows)
+    record('weights', n, k, 0, rows, (), f'{said(c)} {d} {d}' + weights_part(n, k, rows))
+
+
+def lightest_call(n, k, rows):
+    """Only where one codeword is the lightest, or the matrix is refused."""
+    found = [0] if matrix_cause(n, k, rows) else lightest(rows)
+    assert len(found) == 1
+    record('lightest', n, k, 0, rows, (), f' {found[0]}')
+
+
+def describe(n, k, rows):
+    """Of the lightest codeword, which may be any of several, the weight and the syndrome are printed."""
+    c = matrix_cause(n, k, rows)
+    d = 0 if c else dmin(rows)
+    assert c or sum(weight_counts(codewords(rows))) == 2**k
+    parts = (part(n, k, rows) for part in (rows_part, checks_part, weights_part))
+    record('describe', n, k, 0, rows, (), f'{said(c)} {d} {d} 0' + ''.join(parts))
+
+
+# ---- operations on a batch of words
+def coded(name, operation, n, k, rows, words, slots):
+    out = [MARKS[0]] * slots
+    c = operation(n, k, rows, words, out)
+    record(name, n, k, 0, rows, (len(words), *words, slots), said(c) + listed(out, MARKS[0]))
+    return out
+
+
+def encoded(*call):
+    return coded('encode', encode, *call)
+
+
+def read(*call):
+    return coded('message', message, *call)
+
+
+def lists(*sizes):
+    return [[mark] * size for mark, size in zip(MARKS, sizes)]
+
+
+def decode_record(name, n, k, rows, x, words, lent, cause):
+    sizes = [len(xs) for xs in lent]
+    record(name, n, k, x, rows, (len(words), *words, *sizes), said(cause) + ''.join(map(listed, lent, MARKS)))
+
+
+def decoded(n, k, rows, reading, words, *sizes):
+    lent = lists(*(sizes or (4, 4, 9)))
+    before = [list(xs) for xs in lent]
+    c = decode(n, k, rows, reading, words, *lent)
+    assert c is None or lent == before
+    name, x = ('nearest', 0) if reading is NEAREST else ('within', reading)
+    decode_record(name, n, k, rows, x, words, lent, c)
+    return lent[0], lent[1]
+
+
+def again(n, k, rows, words, *sizes):
+    """On the lists that a Decode with rows and words exchanged has left."""
+    lent = lists(*sizes)
+    assert decode(n, k, words, NEAREST, rows, *lent) is None
+    decode_record('again', n, k, rows, 0, words, lent, decode(n, k, rows, NEAREST, words, *lent))
