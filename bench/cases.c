@@ -1,0 +1,316 @@
+#include "cases.h"
+#include "../bindings/relaymarten.h"
+#include <string.h>
+
+enum { WORDS = 512, FIXED = 1000 };
+
+static uint64_t state = 0x9E3779B97F4A7C15;
+
+static uint64_t next(void)
+{
+    state ^= state << 13;
+    state ^= state >> 7;
+    state ^= state << 17;
+    return state;
+}
+
+/* What a case reads, and what each side writes. */
+static struct {
+    uint32_t n, k, rows[16], words[WORDS], fixed[FIXED];
+    size_t count, prepared;
+    uint8_t check[FIXED], sheet[4096];
+    uint64_t data[FIXED];
+    size_t sheet_len;
+} in;
+
+typedef struct {
+    uint32_t number, reduced[16], checks[12], weights[33], dmin, lightest, words[WORDS], work[4096], fixed[FIXED];
+    uint8_t counts[FIXED], check[FIXED], out[RELAY_MAX_OUTPUT];
+    uint64_t data[FIXED];
+    size_t value, length;
+} Written;
+
+static Written ours, theirs;
+
+void set_words(bool all)
+{
+    in.count = all ? in.prepared : 0;
+}
+
+/* The lightest codeword may be any of its weight. */
+bool same(void)
+{
+    bool light = __builtin_popcount(ours.lightest) == __builtin_popcount(theirs.lightest);
+    bool done = ours.number == 0 && memcmp(ours.out, "refused", 7) != 0;
+    theirs.lightest = ours.lightest;
+    return done && light && memcmp(&ours, &theirs, sizeof ours) == 0;
+}
+
+/* Random rows that are independent: the identity on the first k places, and rows added to rows. */
+static void dense(uint32_t n, uint32_t k)
+{
+    in.n = n;
+    in.k = k;
+    for (uint32_t i = 0; i < k; i++)
+        in.rows[i] = 1u << i | ((uint32_t)(next() >> 20) & ((1u << n) - (1u << k)));
+    for (uint32_t i = 0; i < 4 * k; i++) {
+        uint32_t a = (uint32_t)(next() >> 33) % k, b = (uint32_t)(next() >> 33) % k;
+        if (a != b)
+            in.rows[a] ^= in.rows[b];
+    }
+}
+
+/* A word of n places and this weight. */
+static uint32_t pattern(uint32_t n, int weight)
+{
+    uint32_t e = 0;
+    while (__builtin_popcount(e) < weight)
+        e |= 1u << (next() >> 33) % n;
+    return e;
+}
+
+/* Random words of so many places. */
+static void random_words(uint32_t places)
+{
+    in.count = in.prepared = WORDS;
+    for (size_t i = 0; i < WORDS; i++)
+        in.words[i] = (uint32_t)(next() >> 20) & ((1u << places) - 1);
+}
+
+/* Codewords with so many changed places. */
+static void sent(int changed)
+{
+    uint32_t messages[WORDS];
+    size_t value;
+    random_words(in.k);
+    memcpy(messages, in.words, sizeof messages);
+    plain_encode(in.n, in.k, in.rows, in.k, messages, WORDS, in.words, WORDS, &value);
+    for (size_t i = 0; i < WORDS; i++)
+        in.words[i] ^= pattern(in.n, changed);
+}
+
+static void small_code(void) { dense(7, 4); }
+static void middle_code(void) { dense(23, 12); }
+static void dense_code(void) { dense(28, 16); }
+
+/* Twelve places, at the high end, where no codeword has a one: nearly all words of weight up to 12 are tried. */
+static void worst_code(void)
+{
+    in.n = 28;
+    in.k = 16;
+    for (uint32_t i = 0; i < 16; i++)
+        in.rows[i] = 1u << i;
+}
+
+/* The perfect Golay code: its leaders are the words of weight up to 3, so that they take little of a call's time. */
+static void perfect_code(void)
+{
+    in.n = 23;
+    in.k = 12;
+    for (uint32_t i = 0; i < 12; i++)
+        in.rows[i] = 0xC75u << i;
+}
+
+static void messages(void) { perfect_code(); random_words(in.k); }
+static void clean(void) { perfect_code(); sent(0); }
+static void damaged(void) { perfect_code(); sent(1); }
+static void any_words(void) { perfect_code(); random_words(in.n); }
+
+#define DESCRIBE(f, w) w.number = f(in.n, in.k, in.rows, in.k, w.reduced, w.checks, w.weights, &w.dmin, &w.lightest, &w.value)
+static void describe_ours(void) { DESCRIBE(relay_describe, ours); }
+static void describe_plain(void) { DESCRIBE(plain_describe, theirs); }
+
+#define LISTS(f, w) w.number = f(in.n, in.k, in.rows, in.k, in.words, in.count, w.words, WORDS, &w.value)
+static void encode_ours(void) { LISTS(relay_encode, ours); }
+static void encode_plain(void) { LISTS(plain_encode, theirs); }
+static void message_ours(void) { LISTS(relay_message, ours); }
+static void message_plain(void) { LISTS(plain_message, theirs); }
+
+static void decode_ours(void)
+{
+    ours.number = relay_decode(in.n, in.k, in.rows, in.k, false, 0, in.words, in.count, ours.words, WORDS, ours.counts, WORDS,
+                               ours.work, 4096, &ours.value);
+}
+
+static void decode_plain(void)
+{
+    uint32_t d;
+    theirs.number = plain_decode(in.n, in.k, in.rows, in.k, false, 0, in.words, in.count, theirs.words, WORDS, theirs.counts, WORDS,
+                                 theirs.work, 4096, &theirs.value, false, &d);
+}
+
+static void golay_messages(void)
+{
+    for (int i = 0; i < FIXED; i++)
+        in.fixed[i] = (uint32_t)(next() >> 40) & 4095;
+}
+
+/* Golay codewords with so many changed places. */
+static void golay(int changed)
+{
+    size_t value;
+    prepare_tables();
+    golay_messages();
+    for (int i = 0; i < FIXED; i++) {
+        plain_golay_encode(in.fixed[i], &in.fixed[i], &value);
+        in.fixed[i] ^= pattern(24, changed);
+    }
+}
+
+static void golay_0(void) { golay(0); }
+static void golay_1(void) { golay(1); }
+static void golay_2(void) { golay(2); }
+static void golay_3(void) { golay(3); }
+static void golay_4(void) { golay(4); }
+
+#define EACH(call) for (int i = 0; i < FIXED; i++) call
+#define CORRECT_GOLAY(f, w) EACH(f(in.fixed[i], &w.fixed[i], &w.counts[i], &w.value))
+static void golay_encode_ours(void) { EACH(relay_golay_encode(in.fixed[i], &ours.fixed[i], &ours.value)); }
+static void golay_encode_plain(void) { EACH(plain_golay_encode(in.fixed[i], &theirs.fixed[i], &theirs.value)); }
+static void golay_decode_ours(void) { CORRECT_GOLAY(relay_golay_decode, ours); }
+static void golay_decode_steps(void) { CORRECT_GOLAY(plain_golay_decode, theirs); }
+static void golay_decode_lanes(void) { CORRECT_GOLAY(lanes_golay_decode, theirs); }
+static void golay_decode_table(void) { CORRECT_GOLAY(table_golay_decode, theirs); }
+static void golay_message_ours(void) { EACH(relay_golay_message(in.fixed[i], &ours.fixed[i], &ours.value)); }
+static void golay_message_plain(void) { EACH(plain_golay_message(in.fixed[i], &theirs.fixed[i], &theirs.value)); }
+
+/* (72,64) codewords with so many changed data places. */
+static void hsiao(int changed)
+{
+    prepare_tables();
+    for (int i = 0; i < FIXED; i++) {
+        in.data[i] = next();
+        in.check[i] = plain_hsiao_encode(in.data[i]);
+        uint64_t e = 0;
+        while (__builtin_popcountll(e) < changed)
+            e |= UINT64_C(1) << (next() >> 33) % 64;
+        in.data[i] ^= e;
+    }
+}
+
+static void hsiao_0(void) { hsiao(0); }
+static void hsiao_1(void) { hsiao(1); }
+static void hsiao_2(void) { hsiao(2); }
+
+static void hsiao_check(void)
+{
+    hsiao(0);
+    for (int i = 0; i < FIXED; i++)
+        in.check[i] ^= (uint8_t)(1u << i % 8);
+}
+
+#define CORRECT(f, w) EACH((w.check[i] = in.check[i], w.data[i] = in.data[i], w.counts[i] = f(&w.check[i], &w.data[i])))
+static void hsiao_encode_ours(void) { EACH(ours.check[i] = relay_hsiao_encode(in.data[i])); }
+static void hsiao_encode_plain(void) { EACH(theirs.check[i] = plain_hsiao_encode(in.data[i])); }
+static void hsiao_decode_ours(void) { CORRECT(relay_hsiao_decode, ours); }
+static void hsiao_decode_folds(void) { CORRECT(plain_hsiao_decode, theirs); }
+static void hsiao_decode_diagonals(void) { CORRECT(diagonal_hsiao_decode, theirs); }
+static void hsiao_decode_tables(void) { CORRECT(table_hsiao_decode, theirs); }
+static void hsiao_message_ours(void) { EACH(relay_hsiao_message(in.check[i], in.data[i], &ours.data[i], &ours.value)); }
+static void hsiao_message_plain(void) { EACH(plain_hsiao_message(in.check[i], in.data[i], &theirs.data[i], &theirs.value)); }
+
+static void put(uint32_t x)
+{
+    for (int i = 0; i < 4; i++)
+        in.sheet[in.sheet_len++] = (uint8_t)(x >> 8 * i);
+}
+
+static void field(uint8_t tag, size_t size)
+{
+    in.sheet[in.sheet_len++] = tag;
+    in.sheet[in.sheet_len++] = (uint8_t)(size >> 8);
+    in.sheet[in.sheet_len++] = (uint8_t)size;
+}
+
+static void byte_field(uint8_t tag, uint32_t content)
+{
+    field(tag, 1);
+    in.sheet[in.sheet_len++] = (uint8_t)content;
+}
+
+/* A sheet of 512 random words; a negative radius is left out. */
+static void sheet(uint32_t n, uint32_t k, int radius)
+{
+    dense(n, k);
+    random_words(n);
+    byte_field(1, n);
+    byte_field(2, k);
+    field(3, 4 * k);
+    for (uint32_t i = 0; i < k; i++)
+        put(in.rows[i]);
+    if (radius >= 0)
+        byte_field(4, (uint32_t)radius);
+    field(5, 4 * WORDS);
+    for (int i = 0; i < WORDS; i++)
+        put(in.words[i]);
+}
+
+static void sheet_small(void) { sheet(7, 4, -1); }
+static void sheet_middle(void) { sheet(23, 12, -1); }
+static void sheet_other(void) { sheet(23, 11, -1); }
+static void sheet_dense(void) { sheet(28, 16, -1); }
+static void sheet_within(void) { sheet(28, 16, 1); }
+static void run_ours(void) { ours.length = relay_run(in.sheet, in.sheet_len, ours.out, sizeof ours.out); }
+static void run_plain(void) { theirs.length = plain_run(in.sheet, in.sheet_len, theirs.out, sizeof theirs.out); }
+
+#define TABLES {.blocks = true, .loops = true, .tables = true}
+
+#define DESCRIBE_CASE(name, prepare)                                                                                              \
+    {"Describe", name, "Gray walk", prepare, describe_ours, describe_plain, {0}, 1, true, false},                                 \
+    {"Describe", name, "walk in blocks", prepare, describe_ours, describe_plain, {.blocks = true}, 1, true, false}
+
+#define LEADERS_CASE(name, prepare)                                                                                               \
+    {"Leaders", name, "recursion", prepare, decode_ours, decode_plain, {0}, 1, false, false},                                     \
+    {"Leaders", name, "last two ones in loops", prepare, decode_ours, decode_plain, {.loops = true}, 1, false, false}
+
+#define WORDS_CASE(name, prepare)                                                                                                 \
+    {"Words, perfect (23,12)", name, "parities", prepare, decode_ours, decode_plain, {.loops = true}, WORDS, true, true},           \
+    {"Words, perfect (23,12)", name, "tables of syndromes", prepare, decode_ours, decode_plain, TABLES, WORDS, true, true}
+
+#define GOLAY_CASE(name, prepare)                                                                                                 \
+    {"Golay", name, "000's steps", prepare, golay_decode_ours, golay_decode_steps, {0}, FIXED, true, false},                      \
+    {"Golay", name, "twelve tests side by side", prepare, golay_decode_ours, golay_decode_lanes, {0}, FIXED, true, false},        \
+    {"Golay", name, "table of 4,096 patterns", prepare, golay_decode_ours, golay_decode_table, {0}, FIXED, true, false}
+
+#define HSIAO_CASE(name, prepare)                                                                                                 \
+    {"(72,64)", name, "folds and a scan", prepare, hsiao_decode_ours, hsiao_decode_folds, {0}, FIXED, false, false},              \
+    {"(72,64)", name, "diagonals and a scan", prepare, hsiao_decode_ours, hsiao_decode_diagonals, {0}, FIXED, false, false},      \
+    {"(72,64)", name, "tables of 256", prepare, hsiao_decode_ours, hsiao_decode_tables, {0}, FIXED, false, false}
+
+#define SHEET_CASE(name, prepare)                                                                                                 \
+    {"Sheets of 512 words", name, "plain", prepare, run_ours, run_plain, {0}, 1, true, false},                                    \
+    {"Sheets of 512 words", name, "quick", prepare, run_ours, run_plain, {.blocks = true, .loops = true}, 1, true, false},        \
+    {"Sheets of 512 words", name, "quick, tables", prepare, run_ours, run_plain, TABLES, 1, true, false}
+
+const Case cases[] = {
+    DESCRIBE_CASE("random (7,4)", small_code),
+    DESCRIBE_CASE("random (23,12)", middle_code),
+    DESCRIBE_CASE("dense (28,16)", dense_code),
+    LEADERS_CASE("dense (28,16)", dense_code),
+    LEADERS_CASE("worst (28,16)", worst_code),
+    {"Words, perfect (23,12)", "encode", "row sums", messages, encode_ours, encode_plain, {0}, WORDS, false, true},
+    {"Words, perfect (23,12)", "read back", "parities", clean, message_ours, message_plain, {0}, WORDS, true, true},
+    WORDS_CASE("decode, clean", clean),
+    WORDS_CASE("decode, 1 changed place", damaged),
+    WORDS_CASE("decode, random words", any_words),
+    {"Golay", "encode", "row sums", golay_messages, golay_encode_ours, golay_encode_plain, {0}, FIXED, false, false},
+    GOLAY_CASE("decode, 0 changed places", golay_0),
+    GOLAY_CASE("decode, 1 changed place", golay_1),
+    GOLAY_CASE("decode, 2 changed places", golay_2),
+    GOLAY_CASE("decode, 3 changed places", golay_3),
+    GOLAY_CASE("decode, 4 changed places (far)", golay_4),
+    {"Golay", "read back", "row sums", golay_0, golay_message_ours, golay_message_plain, {0}, FIXED, false, false},
+    {"(72,64)", "encode", "folds", hsiao_0, hsiao_encode_ours, hsiao_encode_plain, {0}, FIXED, false, false},
+    HSIAO_CASE("decode, 0 changed places", hsiao_0),
+    HSIAO_CASE("decode, 1 changed data place", hsiao_1),
+    HSIAO_CASE("decode, 1 changed check place", hsiao_check),
+    HSIAO_CASE("decode, 2 changed places (far)", hsiao_2),
+    {"(72,64)", "read back", "folds", hsiao_0, hsiao_message_ours, hsiao_message_plain, {0}, FIXED, false, false},
+    SHEET_CASE("random (7,4)", sheet_small),
+    SHEET_CASE("random (23,12)", sheet_middle),
+    SHEET_CASE("random (23,11)", sheet_other),
+    SHEET_CASE("dense (28,16)", sheet_dense),
+    SHEET_CASE("dense (28,16), within 1", sheet_within),
+};
+
+const size_t case_count = sizeof cases / sizeof *cases;

@@ -1,0 +1,25 @@
+/* The cases of the benchmarks. */
+#ifndef CASES_H
+#define CASES_H
+
+#include "plain.h"
+
+typedef struct {
+    const char *section, *name, *plain_name;
+    void (*prepare)(void), (*ours)(void), (*plain)(void);
+    Ways ways;
+    int words;    /* of one run */
+    bool matters; /* whether counts of ones matter to the plain side */
+    bool less;    /* whether the run with no words is subtracted */
+} Case;
+
+extern const Case cases[];
+extern const size_t case_count;
+
+/* Gives a case on lists all its words, or none. */
+void set_words(bool all);
+
+/* Whether both sides were done and wrote the same. */
+bool same(void);
+
+#endif

@@ -1,0 +1,123 @@
+#!/usr/bin/env python3
+"""Runs the benchmark programs of bench/run and prints docs/BENCHMARKS.md: measure.py DIRECTORY.
+
+DIRECTORY has the programs bench_call, bench_inline and bench_popcnt: the same library against C with gcc's library count of ones, with one
+written inline, and built with -mpopcnt."""
+import collections
+import datetime
+import os
+import re
+import subprocess
+import sys
+
+BUILDS = ["call", "inline", "popcnt"]
+GOALS = [("(72,64)", "(72,64) decode", 1.25), ("Golay", "Golay decode", 1.05), ("Sheets of 512 words", "sheet", 1.5)]
+
+Case = collections.namedtuple("Case", "index section name plain words matters less")
+# library: (instructions, nanoseconds); ratios: by build, of the same
+Result = collections.namedtuple("Result", "case library ratios")
+
+
+def output(*command):
+    return subprocess.run(command, check=True, capture_output=True, text=True).stdout
+
+
+def run_instructions(program, case, words, side):
+    done = subprocess.run(
+        ["valgrind", "--tool=callgrind", "--toggle-collect=measured", "--callgrind-out-file=/dev/null",
+         program, "count", str(case.index), side, words], check=True, capture_output=True, text=True)
+    return int(re.search(r"Collected : (\d+)", done.stderr).group(1)) / int(done.stdout)
+
+
+def instructions(program, case, side):
+    """Of a word; the run with no words is subtracted where the case says so."""
+    none = run_instructions(program, case, "none", side) if case.less else 0
+    return (run_instructions(program, case, "all", side) - none) / case.words
+
+
+def times(program, case):
+    return [float(x) / case.words for x in output(program, "time", str(case.index)).split()]
+
+
+def measure(directory, case, known):
+    """known: the library's instructions for the cases measured before, by section and name."""
+    programs = {build: os.path.join(directory, "bench_" + build) for build in (BUILDS if case.matters else BUILDS[:1])}
+    key = (case.section, case.name)
+    if key not in known:
+        known[key] = instructions(programs["call"], case, "ours")
+    ratios, took = {}, []
+    for build, program in programs.items():
+        subprocess.run([program, "check", str(case.index)], check=True)
+        ours, plain = times(program, case)
+        took.append(ours)
+        ratios[build] = (known[key] / instructions(program, case, "plain"), ours / plain)
+    return Result(case, (known[key], min(took)), ratios)
+
+
+def number(x):
+    if x >= 1e6:
+        return "%.2f M" % (x / 1e6)
+    return "%.1f k" % (x / 1e3) if x >= 1e4 else "%.0f" % x
+
+
+def duration(ns):
+    if ns >= 1e6:
+        return "%.2f ms" % (ns / 1e6)
+    return "%.1f us" % (ns / 1e3) if ns >= 1e4 else "%.1f ns" % ns
+
+
+def ratio_cells(r, kind):
+    """A difference of times that is not above 0 is noise, and no ratio is given."""
+    cells = [r.ratios[build][kind] if build in r.ratios else None for build in BUILDS]
+    return ["" if ratio is None else "%.2f" % ratio if ratio > 0 else "noise" for ratio in cells]
+
+
+def table(header, rows):
+    lines = [header, ["---"] * len(header)] + rows
+    return "\n".join("| " + " | ".join(line) + " |" for line in lines) + "\n"
+
+
+def section_table(results):
+    header = ["Case", "C", "instructions", *("to C, " + b for b in BUILDS), "time", *("to C, " + b for b in BUILDS)]
+    return table(header, [
+        [r.case.name, r.case.plain, number(r.library[0]), *ratio_cells(r, 0), duration(r.library[1]), *ratio_cells(r, 1)]
+        for r in results])
+
+
+def goal_rows(title, goal, results):
+    """For each C and build the greatest ratio of instructions among the cases, but for encoding and reading back."""
+    found = collections.defaultdict(list)
+    for r in results:
+        if r.case.name not in ("encode", "read back"):
+            for build, (ratio, _) in r.ratios.items():
+                found[r.case.plain, build if r.case.matters else ""].append((ratio, r.case.name))
+    for (plain, build), ratios in found.items():
+        worst, name = max(ratios)
+        yield ["%s within %.2f" % (title, goal), plain, build, "%.2f (%s)" % (worst, name), "met" if worst <= goal else "not met"]
+
+
+def machine():
+    model = next((line.split(":")[1].strip() for line in open("/proc/cpuinfo") if line.startswith("model name")), "unknown")
+    parts = [model, "%d cores" % os.cpu_count(), output("uname", "-sr").strip(), output("gcc", "--version").splitlines()[0],
+             output("rt", "version").strip(), output("valgrind", "--version").strip()]
+    return "Machine: %s. Date: %s.\n" % ("; ".join(parts), datetime.datetime.now(datetime.timezone.utc).date())
+
+
+def main():
+    directory = sys.argv[1]
+    cases = []
+    for index, line in enumerate(output(os.path.join(directory, "bench_call"), "list").splitlines()):
+        section, name, plain, words, matters, less = line.split("\t")
+        cases.append(Case(index, section, name, plain, int(words), matters == "1", less == "1"))
+    known, sections = {}, collections.defaultdict(list)
+    for case in cases:
+        sections[case.section].append(measure(directory, case, known))
+        print(case.section, case.name, case.plain, sections[case.section][-1], sep="; ", file=sys.stderr)
+    print(open(os.path.join(os.path.dirname(__file__), "head.md")).read() + machine())
+    print("## Goals\n\nThe greatest ratio of instructions among the cases below.\n")
+    print(table(["Goal", "C", "build", "greatest ratio", ""],
+                [row for section, title, goal in GOALS for row in goal_rows(title, goal, sections[section])]))
+    print("\n".join("## %s\n\n%s" % (section, section_table(results)) for section, results in sections.items()), end="")
+
+
+main()

@@ -1,0 +1,64 @@
+/* Plain C that does what the proved library does, to compare with; gcc -O3. */
+#ifndef PLAIN_H
+#define PLAIN_H
+
+#include <stdbool.h>
+#include <stddef.h>
+#include <stdint.h>
+
+/* The number of ones: written inline, or gcc's own, which is a library call without -mpopcnt. */
+static inline unsigned ones(uint32_t x)
+{
+#ifdef INLINE_COUNT
+    x -= x >> 1 & 0x55555555u;
+    x = (x & 0x33333333u) + (x >> 2 & 0x33333333u);
+    x = (x + (x >> 4)) & 0x0F0F0F0Fu;
+    return x * 0x01010101u >> 24;
+#else
+    return (unsigned)__builtin_popcount(x);
+#endif
+}
+
+/* How the plain side works; what is false is done in the plainest way. */
+typedef struct {
+    bool blocks; /* codewords are walked in blocks, not in Gray order */
+    bool loops;  /* the leaders' last two ones are placed in loops, not by recursion */
+    bool tables; /* syndromes by tables of seven places, not by a parity for each check row */
+} Ways;
+
+extern Ways ways;
+
+void gray_walk(uint32_t k, const uint32_t *rows, uint32_t counts[33], uint32_t *dmin, uint32_t *lightest);
+void block_walk(uint32_t k, const uint32_t *rows, uint32_t counts[33], uint32_t *dmin, uint32_t *lightest);
+uint32_t gray_distance(uint32_t k, const uint32_t *rows);
+uint32_t block_distance(uint32_t k, const uint32_t *rows);
+
+uint32_t plain_describe(uint32_t n, uint32_t k, const uint32_t *rows, size_t rows_len, uint32_t reduced[16], uint32_t checks[12],
+                        uint32_t counts[33], uint32_t *dmin, uint32_t *lightest, size_t *value);
+uint32_t plain_encode(uint32_t n, uint32_t k, const uint32_t *rows, size_t rows_len, const uint32_t *messages, size_t m,
+                      uint32_t *out, size_t out_len, size_t *value);
+uint32_t plain_message(uint32_t n, uint32_t k, const uint32_t *rows, size_t rows_len, const uint32_t *words, size_t m,
+                       uint32_t *out, size_t out_len, size_t *value);
+/* *d becomes the minimum distance where `measured` asks for it. */
+uint32_t plain_decode(uint32_t n, uint32_t k, const uint32_t *rows, size_t rows_len, bool within, uint32_t radius,
+                      const uint32_t *words, size_t m, uint32_t *out, size_t out_len, uint8_t *counts, size_t counts_len,
+                      uint32_t *work, size_t work_len, size_t *value, bool measured, uint32_t *d);
+
+/* Fills the tables of the fixed codes; the table_ functions ask for it. */
+void prepare_tables(void);
+
+uint32_t plain_golay_encode(uint32_t message, uint32_t *word, size_t *value);
+uint32_t plain_golay_decode(uint32_t received, uint32_t *word, uint8_t *count, size_t *value);
+uint32_t lanes_golay_decode(uint32_t received, uint32_t *word, uint8_t *count, size_t *value);
+uint32_t table_golay_decode(uint32_t received, uint32_t *word, uint8_t *count, size_t *value);
+uint32_t plain_golay_message(uint32_t codeword, uint32_t *message, size_t *value);
+
+uint8_t plain_hsiao_encode(uint64_t data);
+uint8_t plain_hsiao_decode(uint8_t *check, uint64_t *data);
+uint8_t diagonal_hsiao_decode(uint8_t *check, uint64_t *data);
+uint8_t table_hsiao_decode(uint8_t *check, uint64_t *data);
+uint32_t plain_hsiao_message(uint8_t check, uint64_t data, uint64_t *message, size_t *value);
+
+size_t plain_run(const uint8_t *sheet, size_t sheet_len, uint8_t *out, size_t out_len);
+
+#endif

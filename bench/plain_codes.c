@@ -1,0 +1,286 @@
+/* Any generator matrix. */
+#include "plain.h"
+#include <string.h>
+
+Ways ways;
+
+typedef struct {
+    uint32_t rows[32];     /* the reduced row whose pivot is this place, or 0 */
+    uint32_t messages[32]; /* the message that has it as its codeword */
+} Pivots;
+
+static uint32_t refuse(size_t *value, uint32_t number, size_t v)
+{
+    *value = v;
+    return number;
+}
+
+/* Causes 1 to 4, and the reduced rows by pivot. */
+static uint32_t reduce(uint32_t n, uint32_t k, const uint32_t *rows, size_t rows_len, Pivots *p, size_t *value)
+{
+    if (n < 2 || n > 28 || k < 1 || k > 16 || n < k + 1 || n > k + 12)
+        return refuse(value, 1, 0);
+    if (rows_len != k)
+        return refuse(value, 2, 0);
+    for (uint32_t i = 0; i < k; i++)
+        if (rows[i] >> n)
+            return refuse(value, 3, i);
+    memset(p, 0, sizeof *p);
+    for (uint32_t i = 0; i < k; i++) {
+        uint32_t x = rows[i], u = 1u << i;
+        for (uint32_t q = 0; q < n; q++)
+            if (x >> q & 1 && p->rows[q]) {
+                x ^= p->rows[q];
+                u ^= p->messages[q];
+            }
+        if (!x)
+            return refuse(value, 4, i);
+        int pivot = __builtin_ctz(x);
+        for (uint32_t q = 0; q < n; q++)
+            if (p->rows[q] >> pivot & 1) {
+                p->rows[q] ^= x;
+                p->messages[q] ^= u;
+            }
+        p->rows[pivot] = x;
+        p->messages[pivot] = u;
+    }
+    return refuse(value, 0, 0);
+}
+
+static unsigned check_rows(uint32_t n, const Pivots *p, uint32_t *checks)
+{
+    unsigned j = 0;
+    for (uint32_t f = 0; f < n; f++)
+        if (!p->rows[f]) {
+            uint32_t h = 1u << f;
+            for (uint32_t q = 0; q < n; q++)
+                h |= (p->rows[q] >> f & 1) << q;
+            checks[j++] = h;
+        }
+    return j;
+}
+
+uint32_t plain_describe(uint32_t n, uint32_t k, const uint32_t *rows, size_t rows_len, uint32_t reduced[16], uint32_t checks[12],
+                        uint32_t counts[33], uint32_t *dmin, uint32_t *lightest, size_t *value)
+{
+    Pivots p;
+    memset(reduced, 0, 16 * sizeof *reduced);
+    memset(checks, 0, 12 * sizeof *checks);
+    memset(counts, 0, 33 * sizeof *counts);
+    *dmin = *lightest = 0;
+    uint32_t number = reduce(n, k, rows, rows_len, &p, value);
+    if (number)
+        return number;
+    unsigned i = 0;
+    for (uint32_t q = 0; q < n; q++)
+        if (p.rows[q])
+            reduced[i++] = p.rows[q];
+    check_rows(n, &p, checks);
+    if (ways.blocks)
+        block_walk(k, rows, counts, dmin, lightest);
+    else
+        gray_walk(k, rows, counts, dmin, lightest);
+    return 0;
+}
+
+/* Causes 6 to 8. */
+static uint32_t lists(const uint32_t *words, size_t m, uint32_t places, size_t slots, size_t *value)
+{
+    if (m > 512)
+        return refuse(value, 6, 0);
+    for (size_t i = 0; i < m; i++)
+        if (words[i] >> places)
+            return refuse(value, 7, i);
+    if (slots < m)
+        return refuse(value, 8, 0);
+    return 0;
+}
+
+static uint32_t row_sum(const uint32_t *rows, unsigned count, uint32_t u)
+{
+    uint32_t sum = 0;
+    for (unsigned i = 0; i < count; i++)
+        sum ^= rows[i] & -(u >> i & 1);
+    return sum;
+}
+
+uint32_t plain_encode(uint32_t n, uint32_t k, const uint32_t *rows, size_t rows_len, const uint32_t *messages, size_t m,
+                      uint32_t *out, size_t out_len, size_t *value)
+{
+    Pivots p;
+    uint32_t number = reduce(n, k, rows, rows_len, &p, value);
+    if (number || (number = lists(messages, m, k, out_len, value)))
+        return number;
+    for (size_t i = 0; i < m; i++)
+        out[i] = row_sum(rows, k, messages[i]);
+    return 0;
+}
+
+static uint32_t syndrome(const uint32_t *checks, unsigned count, uint32_t w)
+{
+    uint32_t s = 0;
+    for (unsigned j = 0; j < count; j++)
+        s |= (ones(w & checks[j]) & 1) << j;
+    return s;
+}
+
+uint32_t plain_message(uint32_t n, uint32_t k, const uint32_t *rows, size_t rows_len, const uint32_t *words, size_t m,
+                       uint32_t *out, size_t out_len, size_t *value)
+{
+    Pivots p;
+    uint32_t checks[12];
+    uint32_t number = reduce(n, k, rows, rows_len, &p, value);
+    if (number || (number = lists(words, m, n, out_len, value)))
+        return number;
+    unsigned r = check_rows(n, &p, checks);
+    for (size_t i = 0; i < m; i++)
+        if (syndrome(checks, r, words[i]))
+            return refuse(value, 10, i);
+    for (size_t i = 0; i < m; i++)
+        out[i] = row_sum(p.messages, n, words[i]);
+    return 0;
+}
+
+typedef struct {
+    uint32_t *list, columns[28], left;
+} Build;
+
+static inline void offer(Build *b, uint32_t w, uint32_t s)
+{
+    if (b->list[s] == UINT32_MAX) {
+        b->list[s] = w;
+        b->left--;
+    }
+}
+
+/* The words of m places and weight t, by rising number. */
+static void fill(Build *b, int m, int t, uint32_t w, uint32_t s)
+{
+    if (!b->left || m < t)
+        return;
+    if (t == 0) {
+        offer(b, w, s);
+        return;
+    }
+    fill(b, m - 1, t, w, s);
+    fill(b, m - 1, t - 1, w | 1u << (m - 1), s ^ b->columns[m - 1]);
+}
+
+/* The same, with the last two ones in loops. */
+static void fill_loops(Build *b, int m, int t, uint32_t w, uint32_t s)
+{
+    if (!b->left || m < t)
+        return;
+    if (t == 1) {
+        for (int p = 0; p < m; p++)
+            offer(b, w | 1u << p, s ^ b->columns[p]);
+        return;
+    }
+    if (t == 2) {
+        for (int p = 1; p < m && b->left; p++)
+            for (int q = 0; q < p; q++)
+                offer(b, w | 1u << p | 1u << q, s ^ b->columns[p] ^ b->columns[q]);
+        return;
+    }
+    fill_loops(b, m - 1, t, w, s);
+    fill_loops(b, m - 1, t - 1, w | 1u << (m - 1), s ^ b->columns[m - 1]);
+}
+
+/* Entry p is the syndrome of the word with a one at place p alone. */
+static void column_list(uint32_t n, const uint32_t *checks, unsigned r, uint32_t columns[28])
+{
+    memset(columns, 0, 28 * sizeof *columns);
+    for (uint32_t p = 0; p < n; p++)
+        for (unsigned j = 0; j < r; j++)
+            columns[p] |= (checks[j] >> p & 1) << j;
+}
+
+static void leaders(uint32_t n, unsigned r, Build *b)
+{
+    b->left = 1u << r;
+    memset(b->list, 0xFF, sizeof *b->list << r);
+    offer(b, 0, 0);
+    for (unsigned t = 1; t <= r && b->left; t++)
+        if (ways.loops)
+            fill_loops(b, (int)n, (int)t, 0, 0);
+        else
+            fill(b, (int)n, (int)t, 0, 0);
+}
+
+/* The syndromes of seven places at a time. */
+typedef struct {
+    uint32_t of[4][128];
+} Tables;
+
+static void fill_tables(const uint32_t columns[28], Tables *tables)
+{
+    for (int t = 0; t < 4; t++) {
+        tables->of[t][0] = 0;
+        for (uint32_t v = 1; v < 128; v++)
+            tables->of[t][v] = tables->of[t][v & (v - 1)] ^ columns[7 * t + __builtin_ctz(v)];
+    }
+}
+
+static inline uint32_t table_syndrome(const Tables *t, uint32_t w)
+{
+    return t->of[0][w & 127] ^ t->of[1][w >> 7 & 127] ^ t->of[2][w >> 14 & 127] ^ t->of[3][w >> 21];
+}
+
+typedef struct {
+    bool within;
+    uint32_t radius;
+    uint32_t *out;
+    uint8_t *counts;
+} Answers;
+
+/* Word i with the error pattern e. */
+static inline void answer(const Answers *a, size_t i, uint32_t w, uint32_t e)
+{
+    unsigned x = ones(e);
+    bool far = a->within && x > a->radius;
+    a->out[i] = far ? w : w ^ e;
+    a->counts[i] = far ? 255 : (uint8_t)x;
+}
+
+static void decode_words(const uint32_t *checks, unsigned r, const uint32_t *leader, const uint32_t *words, size_t m, const Answers *a)
+{
+    for (size_t i = 0; i < m; i++)
+        answer(a, i, words[i], leader[syndrome(checks, r, words[i])]);
+}
+
+static void decode_by_tables(const uint32_t columns[28], const uint32_t *leader, const uint32_t *words, size_t m, const Answers *a)
+{
+    Tables tables;
+    fill_tables(columns, &tables);
+    for (size_t i = 0; i < m; i++)
+        answer(a, i, words[i], leader[table_syndrome(&tables, words[i])]);
+}
+
+uint32_t plain_decode(uint32_t n, uint32_t k, const uint32_t *rows, size_t rows_len, bool within, uint32_t radius,
+                      const uint32_t *words, size_t m, uint32_t *out, size_t out_len, uint8_t *counts, size_t counts_len,
+                      uint32_t *work, size_t work_len, size_t *value, bool measured, uint32_t *d)
+{
+    Pivots p;
+    uint32_t checks[12];
+    Build b = {.list = work};
+    Answers a = {within, radius, out, counts};
+    uint32_t number = reduce(n, k, rows, rows_len, &p, value);
+    if (number)
+        return number;
+    if (within || measured)
+        *d = ways.blocks ? block_distance(k, rows) : gray_distance(k, rows);
+    if (within && (*d - 1) / 2 < radius)
+        return refuse(value, 5, 0);
+    if ((number = lists(words, m, n, out_len < counts_len ? out_len : counts_len, value)))
+        return number;
+    if (work_len < (size_t)1 << (n - k))
+        return refuse(value, 9, 0);
+    unsigned r = check_rows(n, &p, checks);
+    column_list(n, checks, r, b.columns);
+    leaders(n, r, &b);
+    if (ways.tables)
+        decode_by_tables(b.columns, work, words, m, &a);
+    else
+        decode_words(checks, r, work, words, m, &a);
+    return 0;
+}

@@ -1,0 +1,93 @@
+/* A (6,3) code: what it is, three messages sent, damaged, decoded and read back; then the two fixed codes and a code sheet.
+ * Built and run by bench/run, which compares what it prints with example.out. */
+#include "relaymarten.h"
+#include <inttypes.h>
+#include <stdio.h>
+
+static const uint32_t rows[3] = {0x31, 0x2A, 0x1C};
+
+/* The n digits of a word, place 0 leftmost. */
+static void print_word(uint32_t n, uint32_t w)
+{
+    for (uint32_t i = 0; i < n; i++)
+        putchar('0' + (int)(w >> i & 1));
+}
+
+static void describe(void)
+{
+    uint32_t reduced[RELAY_MAX_ROWS], checks[RELAY_MAX_CHECKS], counts[RELAY_WEIGHTS], dmin, lightest;
+    size_t value;
+    if (relay_describe(6, 3, rows, 3, reduced, checks, counts, &dmin, &lightest, &value) != 0)
+        return;
+    printf("minimum distance %" PRIu32 ", reduced rows", dmin);
+    for (int i = 0; i < 3; i++) {
+        putchar(' ');
+        print_word(6, reduced[i]);
+    }
+    printf(", check rows");
+    for (int i = 0; i < 3; i++) {
+        putchar(' ');
+        print_word(6, checks[i]);
+    }
+    printf(", weights");
+    for (int i = 0; i <= 6; i++)
+        printf(" %" PRIu32, counts[i]);
+    putchar('\n');
+}
+
+static void send(void)
+{
+    const uint32_t messages[3] = {1, 5, 7};
+    uint32_t words[3], decoded[3], read[3], work[8];
+    uint8_t counts[3];
+    size_t value;
+    if (relay_encode(6, 3, rows, 3, messages, 3, words, 3, &value) != 0)
+        return;
+    words[1] ^= 1u << 4; /* one place changed */
+    words[2] ^= 0x24;    /* two */
+    if (relay_decode(6, 3, rows, 3, true, 1, words, 3, decoded, 3, counts, 3, work, 8, &value) != 0)
+        return;
+    for (int i = 0; i < 3; i++) {
+        print_word(6, words[i]);
+        printf(" gives ");
+        print_word(6, decoded[i]);
+        printf(counts[i] == RELAY_FAR ? " far\n" : " %d\n", counts[i]);
+    }
+    uint32_t number = relay_message(6, 3, rows, 3, decoded, 3, read, 3, &value);
+    printf("read back: number %" PRIu32 ", value %zu\n", number, value);
+    if (relay_message(6, 3, rows, 3, decoded, 2, read, 3, &value) == 0)
+        printf("messages %" PRIu32 " and %" PRIu32 "\n", read[0], read[1]);
+}
+
+static void fixed_codes(void)
+{
+    uint32_t word, corrected;
+    uint8_t count;
+    size_t value;
+    relay_golay_encode(3, &word, &value);
+    relay_golay_decode(word ^ 0x20101, &corrected, &count, &value);
+    printf("Golay %06" PRIX32 ", damaged %06" PRIX32 ", decoded %06" PRIX32 " %d\n", word, word ^ 0x20101, corrected, count);
+    uint64_t data = 0x123456789ABCDEF0;
+    uint8_t check = relay_hsiao_encode(data);
+    uint64_t received = data ^ (UINT64_C(1) << 40);
+    count = relay_hsiao_decode(&check, &received);
+    printf("(72,64) %016" PRIX64 " %02X, count %d, %s\n", received, check, count, received == data ? "corrected" : "lost");
+}
+
+static void sheet(void)
+{
+    static const uint8_t bytes[] = {0x01, 0, 1, 6, 0x02, 0, 1, 3, 0x03, 0, 12, 0x31, 0, 0, 0, 0x2A, 0, 0,
+                                    0,    0x1C, 0, 0, 0, 0x05, 0, 8, 0x23, 0, 0, 0, 0x1F, 0, 0, 0};
+    static uint8_t out[RELAY_MAX_OUTPUT];
+    size_t length = relay_run(bytes, sizeof bytes, out, sizeof out);
+    fwrite(out, 1, length, stdout);
+}
+
+int main(void)
+{
+    describe();
+    send();
+    fixed_codes();
+    sheet();
+    return 0;
+}

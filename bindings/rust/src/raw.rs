@@ -1,0 +1,30 @@
+//! The declarations of `bindings/relaymarten.h`: pointers, lengths, and numbers for answers.
+#![allow(clippy::missing_safety_doc)]
+
+#[rustfmt::skip]
+#[link(name = "c_interface", kind = "static")]
+extern "C" {
+    pub fn relay_describe(
+        n: u32, k: u32, rows: *const u32, rows_len: usize, reduced: *mut [u32; 16], checks: *mut [u32; 12],
+        weight_counts: *mut [u32; 33], dmin: *mut u32, lightest: *mut u32, value: *mut usize,
+    ) -> u32;
+    pub fn relay_encode(
+        n: u32, k: u32, rows: *const u32, rows_len: usize, messages: *const u32, messages_len: usize,
+        out: *mut u32, out_len: usize, value: *mut usize,
+    ) -> u32;
+    pub fn relay_message(
+        n: u32, k: u32, rows: *const u32, rows_len: usize, words: *const u32, words_len: usize,
+        out: *mut u32, out_len: usize, value: *mut usize,
+    ) -> u32;
+    pub fn relay_decode(
+        n: u32, k: u32, rows: *const u32, rows_len: usize, within: bool, radius: u32, words: *const u32, words_len: usize,
+        out: *mut u32, out_len: usize, counts: *mut u8, counts_len: usize, work: *mut u32, work_len: usize, value: *mut usize,
+    ) -> u32;
+    pub fn relay_golay_encode(message: u32, word: *mut u32, value: *mut usize) -> u32;
+    pub fn relay_golay_decode(received: u32, word: *mut u32, count: *mut u8, value: *mut usize) -> u32;
+    pub fn relay_golay_message(codeword: u32, message: *mut u32, value: *mut usize) -> u32;
+    pub fn relay_hsiao_encode(data: u64) -> u8;
+    pub fn relay_hsiao_decode(check: *mut u8, data: *mut u64) -> u8;
+    pub fn relay_hsiao_message(check: u8, data: u64, message: *mut u64, value: *mut usize) -> u32;
+    pub fn relay_run(sheet: *const u8, sheet_len: usize, out: *mut u8, out_len: usize) -> usize;
+}

@@ -1,0 +1,61 @@
+//! The (72,64) code.
+use crate::random::Random;
+use crate::{plain, told};
+use relaymarten::{hsiao_decode, hsiao_encode, hsiao_message, raw};
+use std::collections::BTreeSet;
+
+/// One word: its decoding and its message.
+fn compare(columns: &[u8], check: u8, data: u64) -> u8 {
+    let theirs = plain::hsiao_decoded(columns, check, data);
+    assert_eq!(hsiao_decode(check, data), theirs, "{check:02X} {data:016X}");
+    let codeword = plain::hsiao_syndrome(columns, check, data) == 0;
+    let message = if codeword { Ok(data) } else { Err((10, 0)) };
+    assert_eq!(told(hsiao_message(check, data)), message, "{check:02X} {data:016X}");
+    theirs.2
+}
+
+/// Codewords with up to three changed places, and any words.
+#[test]
+fn words() {
+    let mut r = Random::of("hsiao words");
+    let columns = plain::hsiao_columns();
+    let mut seen = BTreeSet::new();
+    for i in 0..60000 {
+        let mut data = r.next();
+        let mut check = hsiao_encode(data);
+        assert_eq!(check, plain::hsiao_syndrome(&columns, 0, data), "{data:016X}");
+        for _ in 0..i % 5 {
+            match r.below(72) {
+                p if p < 8 => check ^= 1 << p,
+                p => data ^= 1 << (p - 8),
+            }
+        }
+        if i % 5 == 4 {
+            check = r.next() as u8;
+        }
+        seen.insert(compare(&columns, check, data));
+    }
+    assert_eq!(seen, BTreeSet::from([0, 1, 255]));
+}
+
+/// Every check byte with each single data bit, and with none: all 256 syndromes.
+#[test]
+fn every_syndrome() {
+    let columns = plain::hsiao_columns();
+    for check in 0..=255 {
+        compare(&columns, check, 0);
+        for i in 0..64 {
+            compare(&columns, check, 1 << i);
+        }
+    }
+}
+
+/// A word that is no codeword writes 0 as its data; a success writes 0 as its value.
+#[test]
+fn every_place_written() {
+    let (mut data, mut a, mut b) = (7, 7, 7);
+    assert_eq!(unsafe { raw::relay_hsiao_message(7, 1, &mut data, &mut a) }, 0);
+    assert_eq!((data, a), (1, 0));
+    assert_eq!(unsafe { raw::relay_hsiao_message(0, 1, &mut data, &mut b) }, 10);
+    assert_eq!((data, b), (0, 0));
+}

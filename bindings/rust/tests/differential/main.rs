@@ -1,0 +1,32 @@
+//! The library, called through this crate, against the plain implementation of `plain`: on random inputs, valid and damaged, every answer
+//! with its value and every slot of every list. Each test demands that every cause that can arise has arisen, with its values.
+//!
+//! The inputs are the same at each run. RELAY_SEED gives others; a failing test prints the seed it had.
+mod codes;
+mod golay;
+mod hsiao;
+mod inputs;
+mod plain;
+mod random;
+mod sheets;
+
+use relaymarten::Refusal;
+use std::collections::BTreeSet;
+
+/// A result with its refusal as number and value, as `plain` has it.
+fn told<T>(result: Result<T, Refusal>) -> Result<T, (u32, usize)> {
+    result.map_err(|e| (e.number(), e.value()))
+}
+
+/// The number of an answer, and whether its value is above 0.
+type Cause = (u32, bool);
+
+fn cause<T>(answer: &Result<T, (u32, usize)>) -> Cause {
+    answer.as_ref().err().map_or((0, false), |e| (e.0, e.1 > 0))
+}
+
+/// The numbers that come with the value 0 alone, and those that come with other values too.
+fn causes(alone: &[u32], valued: &[u32]) -> BTreeSet<Cause> {
+    let zero = alone.iter().chain(valued).map(|&n| (n, false));
+    zero.chain(valued.iter().map(|&n| (n, true))).collect()
+}

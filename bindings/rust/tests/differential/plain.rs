@@ -1,0 +1,298 @@
+//! Plain decoding from the specification's definitions alone, by walks over all codewords: nothing here is shared with the library or
+//! its wrapper.
+use std::collections::{HashMap, HashSet};
+
+const MAX_WORDS: usize = 512;
+const FAR: u8 = 255;
+
+/// The number of a cause and the value beside it.
+pub type Refused = (u32, usize);
+
+fn refused<T>(number: u32, value: usize) -> Result<T, Refused> {
+    Err((number, value))
+}
+
+fn outside(words: &[u32], places: u32) -> Option<usize> {
+    words.iter().position(|&w| (w as u64) >> places != 0)
+}
+
+/// An accepted matrix and all its codewords, by message.
+pub struct Code {
+    n: u32,
+    k: u32,
+    pub codewords: Vec<u32>,
+}
+
+fn sums(rows: &[u32]) -> Vec<u32> {
+    let mut all = vec![0];
+    for &row in rows {
+        let more: Vec<u32> = all.iter().map(|c| c ^ row).collect();
+        all.extend(more);
+    }
+    all
+}
+
+/// Causes 1 to 4.
+pub fn accept(n: u32, k: u32, rows: &[u32]) -> Result<Code, Refused> {
+    if !(2..=28).contains(&n) || !(1..=16).contains(&k) || n < k + 1 || n > k + 12 {
+        return refused(1, 0);
+    }
+    if rows.len() != k as usize {
+        return refused(2, 0);
+    }
+    if let Some(i) = outside(rows, n) {
+        return refused(3, i);
+    }
+    let mut span = HashSet::from([0u32]);
+    for (i, &row) in rows.iter().enumerate() {
+        if span.contains(&row) {
+            return refused(4, i);
+        }
+        let more: Vec<u32> = span.iter().map(|c| c ^ row).collect();
+        span.extend(more);
+    }
+    Ok(Code { n, k, codewords: sums(rows) })
+}
+
+impl Code {
+    fn nonzero(&self) -> impl Iterator<Item = u32> + '_ {
+        self.codewords.iter().copied().filter(|&c| c != 0)
+    }
+
+    pub fn dmin(&self) -> u32 {
+        self.nonzero().map(u32::count_ones).min().unwrap()
+    }
+
+    /// The leftmost ones of the codewords, rising.
+    fn pivots(&self) -> Vec<u32> {
+        let mut p: Vec<u32> = self.nonzero().map(u32::trailing_zeros).collect::<HashSet<_>>().into_iter().collect();
+        p.sort();
+        p
+    }
+
+    /// The codeword that has a one at pivot i and at no other pivot.
+    pub fn reduced(&self) -> Vec<u32> {
+        let pivots = self.pivots();
+        let all: u32 = pivots.iter().map(|p| 1 << p).sum();
+        pivots.iter().map(|p| self.nonzero().find(|c| c & all == 1 << p).unwrap()).collect()
+    }
+
+    fn free(&self) -> Vec<u32> {
+        let pivots = self.pivots();
+        (0..self.n).filter(|p| !pivots.contains(p)).collect()
+    }
+
+    pub fn checks(&self) -> Vec<u32> {
+        let (pivots, reduced) = (self.pivots(), self.reduced());
+        let row = |f: u32| -> u32 { pivots.iter().zip(&reduced).map(|(p, r)| (r >> f & 1) << p).sum::<u32>() | 1 << f };
+        self.free().into_iter().map(row).collect()
+    }
+
+    pub fn weight_counts(&self) -> Vec<u32> {
+        let mut counts = vec![0; self.n as usize + 1];
+        for c in &self.codewords {
+            counts[c.count_ones() as usize] += 1;
+        }
+        counts
+    }
+
+    /// The lightest error pattern of a received word, of several the smallest number: a walk over all codewords.
+    fn pattern(&self, w: u32) -> u32 {
+        self.codewords.iter().map(|c| c ^ w).min_by_key(|e| (e.count_ones(), *e)).unwrap()
+    }
+
+    /// The leaders by syndrome. The word with a one at free place j for each one j of the syndrome has that syndrome.
+    fn leaders(&self) -> Vec<u32> {
+        let free = self.free();
+        let word = |s: u32| free.iter().enumerate().map(|(j, f)| (s >> j & 1) << f).sum();
+        (0..1 << (self.n - self.k)).map(|s| self.pattern(word(s))).collect()
+    }
+
+    /// Codeword and count, within the radius or, without one, nearest.
+    fn decoded(&self, radius: Option<u32>, w: u32) -> (u32, u8) {
+        let e = self.pattern(w);
+        match radius {
+            Some(r) if e.count_ones() > r => (w, FAR),
+            _ => (w ^ e, e.count_ones() as u8),
+        }
+    }
+}
+
+/// Causes 6 to 8.
+fn lists(words: &[u32], places: u32, slots: usize) -> Result<(), Refused> {
+    if words.len() > MAX_WORDS {
+        return refused(6, 0);
+    }
+    if let Some(i) = outside(words, places) {
+        return refused(7, i);
+    }
+    if slots < words.len() {
+        return refused(8, 0);
+    }
+    Ok(())
+}
+
+pub fn encode(n: u32, k: u32, rows: &[u32], messages: &[u32], out: &mut [u32]) -> Result<(), Refused> {
+    let code = accept(n, k, rows)?;
+    lists(messages, k, out.len())?;
+    for (slot, &u) in out.iter_mut().zip(messages) {
+        *slot = code.codewords[u as usize];
+    }
+    Ok(())
+}
+
+pub fn message(n: u32, k: u32, rows: &[u32], words: &[u32], out: &mut [u32]) -> Result<(), Refused> {
+    let code = accept(n, k, rows)?;
+    lists(words, n, out.len())?;
+    let read: HashMap<u32, u32> = code.codewords.iter().enumerate().map(|(u, &c)| (c, u as u32)).collect();
+    if let Some(i) = words.iter().position(|w| !read.contains_key(w)) {
+        return refused(10, i);
+    }
+    for (slot, w) in out.iter_mut().zip(words) {
+        *slot = read[w];
+    }
+    Ok(())
+}
+
+pub fn decode(
+    n: u32,
+    k: u32,
+    rows: &[u32],
+    radius: Option<u32>,
+    words: &[u32],
+    out: &mut [u32],
+    counts: &mut [u8],
+    work: &mut [u32],
+) -> Result<Code, Refused> {
+    let code = accept(n, k, rows)?;
+    if let Some(r) = radius {
+        if 2 * r as u64 + 1 > code.dmin() as u64 {
+            return refused(5, 0);
+        }
+    }
+    lists(words, n, out.len().min(counts.len()))?;
+    if work.len() < 1 << (n - k) {
+        return refused(9, 0);
+    }
+    for (i, &w) in words.iter().enumerate() {
+        (out[i], counts[i]) = code.decoded(radius, w);
+    }
+    for (slot, leader) in work.iter_mut().zip(code.leaders()) {
+        *slot = leader;
+    }
+    Ok(code)
+}
+
+/// P then the identity: row 0 of P, its rotations to the left with a 1, and eleven ones with a 0.
+pub fn golay_codewords() -> Vec<u32> {
+    let digits = |text: &str| -> u32 { text.bytes().enumerate().map(|(i, b)| ((b - b'0') as u32) << i).sum() };
+    let first = "10001110110";
+    let mut rows: Vec<u32> = (0..11).map(|i| digits(&format!("{}{}1", &first[i..], &first[..i]))).collect();
+    rows.push(digits("111111111110"));
+    sums(&rows.iter().enumerate().map(|(i, p)| p | 1 << (12 + i)).collect::<Vec<_>>())
+}
+
+/// Codeword and count within three places, by a walk over the 4,096 codewords.
+pub fn golay_decoded(codewords: &[u32], w: u32) -> (u32, u8) {
+    match codewords.iter().find(|&&c| (c ^ w).count_ones() <= 3) {
+        Some(&c) => (c, (c ^ w).count_ones() as u8),
+        None => (w, FAR),
+    }
+}
+
+pub fn hsiao_columns() -> Vec<u8> {
+    let mut columns: Vec<u8> = (0..=255u8).filter(|b| b.count_ones() == 3).collect();
+    columns.extend([0x1F, 0x3E, 0x7C, 0xF8, 0xF1, 0xE3, 0xC7, 0x8F]);
+    columns
+}
+
+pub fn hsiao_syndrome(columns: &[u8], check: u8, data: u64) -> u8 {
+    (0..64).filter(|i| data >> i & 1 == 1).fold(check, |s, i| s ^ columns[i])
+}
+
+/// Word and count: the word, else the 72 words with one place changed, are tried for a codeword.
+pub fn hsiao_decoded(columns: &[u8], check: u8, data: u64) -> (u8, u64, u8) {
+    let codeword = |c: u8, d: u64| hsiao_syndrome(columns, c, d) == 0;
+    if codeword(check, data) {
+        return (check, data, 0);
+    }
+    for i in 0..8 {
+        if codeword(check ^ 1 << i, data) {
+            return (check ^ 1 << i, data, 1);
+        }
+    }
+    for i in 0..64 {
+        if codeword(check, data ^ 1 << i) {
+            return (check, data ^ 1 << i, 1);
+        }
+    }
+    (check, data, FAR)
+}
+
+/// A sheet that was read.
+struct Sheet {
+    n: u32,
+    k: u32,
+    rows: Vec<u32>,
+    radius: Option<u32>,
+    words: Vec<u32>,
+}
+
+fn read_sheet(sheet: &[u8]) -> Result<Sheet, Refused> {
+    if sheet.len() > 4096 {
+        return refused(12, 4096);
+    }
+    let mut fields: HashMap<u8, &[u8]> = HashMap::new();
+    let (mut at, mut last) = (0, 0);
+    while at < sheet.len() {
+        let left = &sheet[at..];
+        if left.len() < 3 {
+            return refused(12, at);
+        }
+        let (tag, length) = (left[0], left[1] as usize * 256 + left[2] as usize);
+        if !(1..=5).contains(&tag) || tag <= last {
+            return refused(13, at);
+        }
+        if left.len() - 3 < length {
+            return refused(12, at);
+        }
+        let right = if tag == 3 || tag == 5 { length % 4 == 0 } else { length == 1 };
+        if !right {
+            return refused(12, at);
+        }
+        fields.insert(tag, &left[3..3 + length]);
+        last = tag;
+        at += 3 + length;
+    }
+    if [1, 2, 3, 5].iter().any(|tag| !fields.contains_key(tag)) {
+        return refused(13, sheet.len());
+    }
+    let words = |tag: u8| fields[&tag].chunks(4).map(|b| u32::from_le_bytes(b.try_into().unwrap())).collect();
+    Ok(Sheet {
+        n: fields[&1][0] as u32,
+        k: fields[&2][0] as u32,
+        rows: words(3),
+        radius: fields.get(&4).map(|f| f[0] as u32),
+        words: words(5),
+    })
+}
+
+fn lines(sheet: &[u8]) -> Result<String, Refused> {
+    let s = read_sheet(sheet)?;
+    let mut out = vec![0; MAX_WORDS];
+    let mut counts = vec![0; MAX_WORDS];
+    let mut work = vec![0; 4096];
+    let code = decode(s.n, s.k, &s.rows, s.radius, &s.words, &mut out, &mut counts, &mut work)?;
+    let d = code.dmin();
+    let mut text = format!("{} {} {} {}\n", s.n, s.k, d, (d - 1) / 2);
+    for i in 0..s.words.len() {
+        text.extend((0..s.n).map(|p| if out[i] >> p & 1 == 1 { '1' } else { '0' }));
+        text += &if counts[i] == FAR { " far\n".to_string() } else { format!(" {}\n", counts[i]) };
+    }
+    Ok(text)
+}
+
+/// What the run prints for a sheet.
+pub fn output(sheet: &[u8]) -> String {
+    lines(sheet).unwrap_or_else(|(number, value)| format!("refused {number} {value}\n"))
+}

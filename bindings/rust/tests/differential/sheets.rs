@@ -1,0 +1,116 @@
+//! The run over a code sheet.
+use crate::inputs::{matrix, received};
+use crate::random::Random;
+use crate::{causes, plain, Cause};
+use relaymarten::{run, MAX_OUTPUT};
+use std::collections::BTreeSet;
+
+type Field = (u8, Vec<u8>);
+
+fn bytes(list: &[u32]) -> Vec<u8> {
+    list.iter().flat_map(|w| w.to_le_bytes()).collect()
+}
+
+/// The fields of a random matrix and its words.
+fn fields(r: &mut Random) -> Vec<Field> {
+    let m = matrix(r, 14);
+    let words = received(r, &m);
+    let mut all = vec![(1, vec![m.n as u8]), (2, vec![m.k as u8]), (3, bytes(&m.rows))];
+    if r.one_in(2) {
+        all.push((4, vec![[0, 1, 2, 3, 255][r.below(5)]]));
+    }
+    all.push((5, bytes(&words)));
+    all
+}
+
+/// One field missing, twice, exchanged with another, of another tag or of another length.
+fn misshape(r: &mut Random, all: &mut Vec<Field>) {
+    let (i, j) = (r.below(all.len()), r.below(all.len()));
+    match r.below(16) {
+        0 => drop(all.remove(i)),
+        1 => all.insert(i, all[j].clone()),
+        2 => all.swap(i, j),
+        3 => all[i].0 = r.next() as u8 % 8,
+        4 => all[i].1.push(r.next() as u8),
+        5 => drop(all[i].1.pop()),
+        _ => {}
+    }
+}
+
+/// Cut, with a bit changed, with bytes after the end, or too long.
+fn damage(r: &mut Random, sheet: &mut Vec<u8>) {
+    match r.below(16) {
+        0 => sheet.truncate(r.below(sheet.len() + 1)),
+        1 if !sheet.is_empty() => {
+            let i = r.below(sheet.len());
+            sheet[i] ^= 1 << r.below(8);
+        }
+        2 => (0..1 + r.below(5)).for_each(|_| sheet.push(r.next() as u8)),
+        3 if r.one_in(4) => sheet.resize(4095 + r.below(5), 0),
+        _ => {}
+    }
+}
+
+fn joined(all: Vec<Field>) -> Vec<u8> {
+    let mut sheet = Vec::new();
+    for (tag, content) in all {
+        sheet.push(tag);
+        sheet.extend((content.len() as u16).to_be_bytes());
+        sheet.extend(content);
+    }
+    sheet
+}
+
+fn sheet(r: &mut Random) -> Vec<u8> {
+    let mut all = fields(r);
+    misshape(r, &mut all);
+    let mut sheet = joined(all);
+    damage(r, &mut sheet);
+    sheet
+}
+
+/// The cause that an output tells.
+fn told(output: &str) -> Cause {
+    let mut numbers = output.strip_prefix("refused ").unwrap_or("0 0\n").trim_end().split(' ').map(|x| x.parse::<u32>().unwrap());
+    (numbers.next().unwrap(), numbers.next().unwrap() > 0)
+}
+
+#[test]
+fn output() {
+    let mut r = Random::of("sheets");
+    let mut seen = BTreeSet::new();
+    for _ in 0..8000 {
+        let s = sheet(&mut r);
+        let before: Vec<u8> = (0..MAX_OUTPUT + r.below(3)).map(|i| i as u8 ^ 0xA5).collect();
+        let mut out = before.clone();
+        let ours = run(&s, &mut out).unwrap().to_vec();
+        let theirs = plain::output(&s);
+        assert_eq!(String::from_utf8_lossy(&ours), theirs, "{s:?}");
+        assert_eq!(out[ours.len()..], before[ours.len()..], "{s:?}");
+        seen.insert(told(&theirs));
+    }
+    assert_eq!(seen, causes(&[0, 1, 2, 5, 6], &[3, 4, 7, 12, 13]));
+}
+
+/// The most words, of the most places.
+#[test]
+fn longest_output() {
+    let mut r = Random::of("longest output");
+    let rows: Vec<u32> = (0..16).map(|i| 1 << i | r.word(28) & 0xFFF0000).collect();
+    let words: Vec<u32> = (0..512).map(|_| r.word(28)).collect();
+    let s = joined(vec![(1, vec![28]), (2, vec![16]), (3, bytes(&rows)), (5, bytes(&words))]);
+    let mut out = vec![0; MAX_OUTPUT];
+    assert_eq!(String::from_utf8_lossy(run(&s, &mut out).unwrap()), plain::output(&s));
+}
+
+/// Without room for the longest output nothing is written.
+#[test]
+fn short_room() {
+    let mut r = Random::of("short room");
+    for room in [0, 1, 100, MAX_OUTPUT - 1] {
+        let s = sheet(&mut r);
+        let mut out = vec![0xA5; room];
+        assert_eq!(run(&s, &mut out), None);
+        assert_eq!(out, vec![0xA5; room]);
+    }
+}
