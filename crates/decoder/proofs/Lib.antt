@@ -1,4 +1,3 @@
-mod TryLaws
 pub mod DecodedLaws
 mod PromiseLaws
 mod StepLaws

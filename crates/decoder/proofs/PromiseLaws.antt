@@ -14,11 +14,13 @@ use Rattle.words.specs.declared.answer.Answer.the-variants.{Done, Refused}
 use Rattle.linear.proofs.AcceptLaws.{accepted-in}
 use Rattle.words.proofs.ShapeLaws.{refused-done}
 use Rattle.words.proofs.ListLaws.{stays, goes, kept, written}
-use Rattle.outcomes.specs.Causes.{batchAnswer, leaderAnswer}
+use Rattle.outcomes.specs.Causes.{batchAnswer}
+use Rattle.leaders.specs.Leaders.{leaderAnswer}
 use Rattle.decoder.specs.Decoded.{wordOf, countOf, Decoded}
 use Rattle.outcomes.specs.declared.outcome.Reading.{Reading}
 use Rattle.outcomes.proofs.CauseLaws.{Passed, batch-in, batch-early, radius-in}
-use Rattle.decoder.proofs.DecodedLaws.{leader-at, leader-passes, slot-at, nearest-rule, radius-rule, clean-rule}
+use Rattle.decoder.proofs.DecodedLaws.{slot-at, nearest-rule, radius-rule, clean-rule}
+use Rattle.leaders.proofs.BuiltLaws.{leader-at, leader-passes}
 
 module _ (n k : ℕ) (rows : List ℕ) (reading : Reading) (words out counts work : List ℕ) where
   -- causes 1 to 9 leave every list as it was

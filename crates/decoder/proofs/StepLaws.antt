@@ -1,28 +1,27 @@
--- What is known at each step of Decode, past its causes: the number of syndromes, the check rows, the list built and the lists written.
--- Assumes nothing.
+-- What is known at each step of Decode, past its causes: the leaders stand in the working list, and the lists written are those of
+-- the definitions. Assumes nothing.
 use mathlib.Core.Path.{_≡_, ap, _∙_}
 use mathlib.Core.List.{List, _++_, map}
 use Prim.Native.Nat.{ℕ, _-_, _*_, _%_, _^_, _≤_, _<_}
 use native.Mathlib.Omega.{arith}
-use lib.ListN.{length, take, drop, length-append, length-drop}
+use lib.ListN.{length, take, drop, length-append}
 use lib.Seq.{take-at}
 use Rattle.coding.specs.Lists.{padded, tabulate}
 use Rattle.coding.specs.Check.{checks, syndrome}
 use Rattle.coding.specs.Leader.{leaderOf}
 use Rattle.coding.proofs.CountLaws.{length-tabulate}
-use Rattle.coding.proofs.MachineLaws.{shl-one}
 use Rattle.words.specs.Limits.{maxChecks}
-use Rattle.linear.specs.Accepted.{Accepted}
-use Rattle.checks.specs.Checks.{ParityChecks}
 use Rattle.words.specs.declared.answer.Answer.the-variants.{Done}
-use Rattle.checks.specs.declared.check.Checks.{Checks}
-use Rattle.linear.proofs.AcceptLaws.{in-accepted}
-use Rattle.decoder.specs.Built.{BuiltList}
+use Rattle.linear.specs.Accepted.{Accepted}
+use Rattle.leaders.specs.Leaders.{LeadersOf}
+use Rattle.leaders.specs.declared.build.Leaders.{Leaders}
+use Rattle.leaders.proofs.BuiltLaws.{checks-below}
+use Rattle.leaders.proofs.PromiseLaws.{size-is as shift-is, leaders-pass}
 use Rattle.outcomes.specs.Causes.{batchAnswer}
-use Rattle.decoder.specs.Decoded.{wordBy, countBy, Decoded}
 use Rattle.outcomes.specs.declared.outcome.Reading.{Reading}
 use Rattle.outcomes.proofs.CauseLaws.{batch-in}
-use Rattle.decoder.proofs.DecodedLaws.{checks-below, leaders-are, none-blank, words-are, counts-are}
+use Rattle.decoder.specs.Decoded.{wordBy, countBy, Decoded}
+use Rattle.decoder.proofs.DecodedLaws.{words-are, counts-are}
 use Rattle.decoder.proofs.PromiseLaws.{past-causes, decode-done}
 
 -- causes 1 to 9 have passed
@@ -33,9 +32,6 @@ module _ {n k : ℕ} {rows : List ℕ} {reading : Reading} {words out counts wor
   A : Accepted n k rows
   A = past-causes n k rows reading words out counts work (g .passed)
 
-  pub places-fit : n ≤ 32
-  places-fit = omega (arith, A .range .places)
-
   pub rows-fit : k ≤ n
   rows-fit = omega (arith, A .range .checks)
 
@@ -43,9 +39,9 @@ module _ {n k : ℕ} {rows : List ℕ} {reading : Reading} {words out counts wor
   checks-fit = omega (arith, A .range .checks)
 
   pub size-is : (1 * 2 ^ (n - k)) % 2 ^ 64 ≡ 2 ^ (n - k)
-  size-is = shl-one (n - k) 64 (omega (arith, checks-fit))
+  size-is = shift-is n k rows A
 
-  pub work-fits : 2 ^ (n - k) ≤ length work
+  work-fits : 2 ^ (n - k) ≤ length work
   work-fits = batch-in n k rows reading words (length out) (length counts) (length work) (g .passed) .work
 
   pub words-fit : (length words ≤ length out) × (length words ≤ length counts)
@@ -53,38 +49,43 @@ module _ {n k : ℕ} {rows : List ℕ} {reading : Reading} {words out counts wor
       let h = batch-in n k rows reading words (length out) (length counts) (length work) (g .passed) .listed .room in
       (omega (arith, h), omega (arith, h))
 
-  module _ {p : Checks} (P : ParityChecks n k rows p) where
-    check-rows : p .rows ≡ padded maxChecks (checks n rows)
-    check-rows = let d : p .answer ≡ Done = P .answer ∙ in-accepted n k rows A in rw d at (P .rows-are)
+  module _ {l : Leaders} {work′ : List ℕ} (L : LeadersOf n k rows work l work′) where
+    pub leaders-done : l .answer ≡ Done
+    leaders-done = L .answer ∙ leaders-pass n k rows A (length work) work-fits
 
-    pub syndromes-fit : (w : ℕ) → syndrome (p .rows) w < 2 ^ (n - k)
-    syndromes-fit w = rw check-rows (checks-below n k rows A w)
+    check-rows : l .checks ≡ padded maxChecks (checks n rows)
+    check-rows = rw leaders-done at (L .checks-are)
 
-    module _ {list : List ℕ} {r : ℕ} (B : BuiltList (p .rows) n (n - k) list r) where
-      leaders : list ≡ tabulate (leaderOf n rows) (2 ^ (n - k))
-      leaders = leaders-are n k rows A list r (rw check-rows at B)
+    work-is : work′ ≡ tabulate (leaderOf n rows) (2 ^ (n - k)) ++ drop (2 ^ (n - k)) work
+    work-is = rw leaders-done at (L .list)
 
-      pub list-long : length list ≡ 2 ^ (n - k)
-      list-long = ap length leaders ∙ length-tabulate (leaderOf n rows) (2 ^ (n - k))
+    long : length (tabulate (leaderOf n rows) (2 ^ (n - k))) ≡ 2 ^ (n - k)
+    long = length-tabulate (leaderOf n rows) (2 ^ (n - k))
 
-      pub list-full : r ≡ 2 ^ (n - k)
-      list-full = none-blank n k rows A list r (rw check-rows at B)
+    leaders-lent : take (2 ^ (n - k)) work′ ≡ tabulate (leaderOf n rows) (2 ^ (n - k))
+    leaders-lent = ap (take (2 ^ (n - k))) work-is ∙ take-at (tabulate (leaderOf n rows) (2 ^ (n - k))) (drop (2 ^ (n - k)) work) (2 ^ (n - k)) long
 
-      pub work-long : length (list ++ drop (2 ^ (n - k)) work) ≡ length work
-      work-long = length-append list (drop (2 ^ (n - k)) work) ∙ omega (arith, list-long, length-drop (2 ^ (n - k)) work, work-fits)
+    pub lent-long : length (take (2 ^ (n - k)) work′) ≡ 2 ^ (n - k)
+    lent-long = ap length leaders-lent ∙ long
 
-      pub leaders-lent : take (2 ^ (n - k)) (list ++ drop (2 ^ (n - k)) work) ≡ list
-      leaders-lent = take-at list (drop (2 ^ (n - k)) work) (2 ^ (n - k)) list-long
+    pub work-long : 2 ^ (n - k) ≤ length work′
+    work-long =
+        omega (arith, ap length work-is ∙ length-append (tabulate (leaderOf n rows) (2 ^ (n - k))) (drop (2 ^ (n - k)) work), long)
 
-      -- the lists written are those of the definitions
-      pub decode-ends : (out′ counts′ : List ℕ)
-          → out′ ≡ map (wordBy reading list (p .rows)) words ++ drop (length words) out
-          → counts′ ≡ map (countBy reading list (p .rows)) words ++ drop (length words) counts
-          → Decoded n k rows reading words out counts work Done out′ counts′ (list ++ drop (2 ^ (n - k)) work)
-      decode-ends out′ counts′ eo ec =
-          decode-done n k rows reading words out counts work (g .passed) out′ counts′ (list ++ drop (2 ^ (n - k)) work)
-          (eo ∙ ap (λ (l : List ℕ). l ++ drop (length words) out)
-          (ap (λ (h : List ℕ). map (wordBy reading list h) words) check-rows ∙ words-are n k rows A reading list leaders words))
-          (ec ∙ ap (λ (l : List ℕ). l ++ drop (length words) counts)
-          (ap (λ (h : List ℕ). map (countBy reading list h) words) check-rows ∙ counts-are n k rows A reading list leaders words))
-          (ap (λ (l : List ℕ). l ++ drop (2 ^ (n - k)) work) leaders)
+    pub syndromes-fit : (w : ℕ) → syndrome (l .checks) w < length (take (2 ^ (n - k)) work′)
+    syndromes-fit w = rw (lent-long, check-rows) (checks-below n k rows A w)
+
+    -- the lists written are those of the definitions
+    pub decode-ends : (out′ counts′ : List ℕ)
+        → out′ ≡ map (wordBy reading (take (2 ^ (n - k)) work′) (l .checks)) words ++ drop (length words) out
+        → counts′ ≡ map (countBy reading (take (2 ^ (n - k)) work′) (l .checks)) words ++ drop (length words) counts
+        → Decoded n k rows reading words out counts work Done out′ counts′ work′
+    decode-ends out′ counts′ eo ec =
+        decode-done n k rows reading words out counts work (g .passed) out′ counts′ work′
+        (eo ∙ ap (λ (x : List ℕ). x ++ drop (length words) out)
+        (ap (λ (h : List ℕ). map (wordBy reading (take (2 ^ (n - k)) work′) h) words) check-rows
+        ∙ words-are n k rows A reading (take (2 ^ (n - k)) work′) leaders-lent words))
+        (ec ∙ ap (λ (x : List ℕ). x ++ drop (length words) counts)
+        (ap (λ (h : List ℕ). map (countBy reading (take (2 ^ (n - k)) work′) h) words) check-rows
+        ∙ counts-are n k rows A reading (take (2 ^ (n - k)) work′) leaders-lent words))
+        work-is

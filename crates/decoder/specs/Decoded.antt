@@ -1,20 +1,19 @@
 -- 01, Decode: its answer, what every lent list holds at the end, and 00's demand 3.
 use mathlib.Core.Path.{_≡_}
 use mathlib.Core.Logic.{_↔_}
-use mathlib.Core.List.{List, map, _++_}
+use mathlib.Core.List.{List, map}
 use Prim.Native.Nat.{ℕ, _-_, _^_, _<_}
-use lib.Dec.{eqb, leb}
-use lib.ListN.{length, getD, drop}
-use Rattle.coding.specs.Lists.{pick, both, tabulate}
-use Rattle.coding.specs.Word.{weight, distance}
+use lib.ListN.{length, getD}
+use Rattle.coding.specs.Word.{distance}
 use Rattle.coding.specs.Matrix.{Codeword}
 use Rattle.coding.specs.Check.{syndrome}
 use Rattle.coding.specs.Weight.{dmin}
-use Rattle.coding.specs.Leader.{syndromeOf, lightestBelow, orNoLeader, IsLeader, leaderOf}
+use Rattle.coding.specs.Leader.{syndromeOf, IsLeader, leaderOf}
 use Rattle.coding.specs.Radius.{NearestRule, RadiusRules}
-use Rattle.words.specs.Refusal.{numberOf, onDone}
+use Rattle.words.specs.Refusal.{onDone}
 use Rattle.words.specs.declared.answer.Answer.{Answer}
-use Rattle.words.specs.declared.answer.Answer.the-variants.{Done, Refused}
+use Rattle.words.specs.declared.answer.Answer.the-variants.{Done}
+use Rattle.leaders.specs.Leaders.{workAfter}
 use Rattle.outcomes.specs.Outcome.{outcomeOf, wordIn, countIn}
 use Rattle.outcomes.specs.Causes.{decodeAnswer}
 use Rattle.outcomes.specs.declared.outcome.Reading.{Reading}
@@ -38,15 +37,6 @@ wordOf n rows reading w = wordIn (decodedAs n rows reading w) w
 
 abbrev pub countOf : ℕ → List ℕ → Reading → ℕ → ℕ
 countOf n rows reading w = countIn (decodedAs n rows reading w)
-
--- the entry of a syndrome when the build ends: its leader where it belongs to a word of weight at most n - k, else 2 ^ 32 - 1
-unfoldable pub entryOf : ℕ → ℕ → List ℕ → ℕ → ℕ
-entryOf n k rows s = orNoLeader (lightestBelow (λ v. both (eqb (syndromeOf n rows v) s) (leb (weight v) (n - k))) (2 ^ n))
-
--- the working list at the end: the leaders, or under number 11 the entries, and every later slot as it was; else all as it was
-abbrev pub workAfter : Answer → ℕ → ℕ → List ℕ → List ℕ → List ℕ
-workAfter Done n k rows old = tabulate (leaderOf n rows) (2 ^ (n - k)) ++ drop (2 ^ (n - k)) old
-workAfter (Refused c) n k rows old = pick (eqb (numberOf c) 11) (tabulate (entryOf n k rows) (2 ^ (n - k)) ++ drop (2 ^ (n - k)) old) old
 
 -- slot i of the codewords and of the counts is the answer to word i, 255 meaning far; later slots, and on a refusal every slot, are
 -- as they were; the working list holds the leaders. On success demand 3 holds of every word of the batch, in either reading, and a

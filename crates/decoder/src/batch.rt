@@ -1,7 +1,6 @@
 // Decode: a batch of received words, read as the nearest codewords or within a radius.
-use crate::leaders::build;
-use checks::check::parity_checks;
 use checks::check::syndrome;
+use leaders::build::leaders_of;
 use outcomes::causes::Measured;
 use outcomes::causes::batch_cause;
 use outcomes::causes::measured_cause;
@@ -11,7 +10,6 @@ use outcomes::outcome::count_in;
 use outcomes::outcome::judged;
 use outcomes::outcome::word_in;
 use words::answer::Answer;
-use words::answer::Refusal;
 use words::limits::MAX_CHECKS;
 ghost use mathlib.Core.Path.{_≡_};
 ghost use mathlib.Core.List.{map, _++_};
@@ -63,13 +61,13 @@ fn decode_passed(
     requires { ⌜ batchAnswer n k (now rows) reading (now words) (length (now out)) (length (now counts)) (length (now work)) ≡ Done ⌝ }
     ensures { λ r. ⌜ Decoded n k (now (rows .entry)) reading (now (words .entry)) (now (out .entry)) (now (counts .entry)) (now (work .entry)) r (now (out .exit)) (now (counts .exit)) (now (work .exit)) ⌝ }
 {
-    let c = parity_checks(n, k, rows);
-    let checks = c.rows;
+    let l = leaders_of(n, k, rows, work);
+    let a = l.answer;
+    let Answer::Done = a else {
+        return a;
+    };
+    let checks = l.checks;
     let size = 1usize << (n - k);
-    let bad = build(&checks, n as usize, (n - k) as usize, &mut work[..size]);
-    if bad != size {
-        return Answer::Refused(Refusal::NoLeader(bad));
-    }
     decode_words(&checks, reading, words, &work[..size], out, counts);
     Answer::Done
 }

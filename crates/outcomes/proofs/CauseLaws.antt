@@ -1,28 +1,29 @@
 -- Laws of the causes of Decode: which group refuses, and what is known when none does. Assumes nothing.
-use mathlib.Core.Path.{_≡_, refl, ap, _∙_}
+use mathlib.Core.Path.{_≡_, refl}
 use mathlib.Core.List.{List}
-use mathlib.Core.Bool.{Bool, true, false}
+use mathlib.Core.Bool.{false}
 use Prim.Native.Nat.{ℕ, _+_, _-_, _*_, _/_, _^_, _≤_, _<_, min}
 use native.Mathlib.Omega.{arith}
 use lib.Dec.{eqb, leb}
 use lib.ListN.{length}
 use borrow.Author.Tests.{leb-true, le-leb, lt-leb}
 use Rattle.coding.specs.Weight.{dmin}
-use Rattle.coding.specs.Matrix.{firstDependent}
-use Rattle.words.specs.Limits.{inRange, maxWords}
-use Rattle.words.specs.Refusal.{numberOf, unless, andThen, ifDone}
-use Rattle.words.specs.Shape.{firstOutside, shapeAnswer}
+use Rattle.words.specs.Limits.{maxWords}
+use Rattle.words.specs.Refusal.{numberOf, ifDone}
+use Rattle.words.specs.Shape.{firstOutside}
 use Rattle.linear.specs.Accepted.{matrixAnswer}
 use Rattle.words.specs.Lists.{listAnswer}
 use Rattle.words.specs.declared.answer.Refusal.{Refusal}
-use Rattle.words.specs.declared.answer.Refusal.the-variants.{OutOfRange, RowCount, RowOutside, Dependent, RadiusTooLarge, TooManyWords, WordOutside, ShortOutput, ShortWork}
+use Rattle.words.specs.declared.answer.Refusal.the-variants.{RadiusTooLarge, TooManyWords, WordOutside, ShortOutput, ShortWork}
 use Rattle.words.specs.declared.answer.Answer.{Answer}
 use Rattle.words.specs.declared.answer.Answer.the-variants.{Done, Refused}
 use Rattle.words.proofs.ShapeLaws.{unless-done, andThen-done}
 use Rattle.words.proofs.ListLaws.{Listed, list-in}
+use Rattle.leaders.proofs.EarlyLaws.{Early, early-done, early-unless, early-andThen, early-matrix}
 use Rattle.weights.specs.Described.{WeightsOf}
 use Rattle.weights.specs.declared.weights.Weights.{Weights}
-use Rattle.outcomes.specs.Causes.{radiusAnswer, workAnswer, listsAnswer, batchAnswer}
+use Rattle.outcomes.specs.Causes.{radiusAnswer, listsAnswer, batchAnswer}
+use Rattle.leaders.specs.Leaders.{workAnswer}
 use Rattle.outcomes.specs.declared.outcome.Reading.{Reading}
 use Rattle.outcomes.specs.declared.outcome.Reading.the-variants.{Nearest, Within}
 
@@ -96,30 +97,11 @@ module _ (n k : ℕ) (rows : List ℕ) (reading : Reading) (words : List ℕ) (s
 
 -- ---- none of these causes is number 11
 
-abbrev Early : Answer → Type 0
-Early a = (c : Refusal) → a ≡ Refused c → eqb (numberOf c) 11 ≡ false
-
-early-done : Early Done
-early-done c e = let z : _≡_ {A = ℕ} 0 1 = cc in absurd (omega arith)
-
-early-unless : (b : Bool) (c : Refusal) (later : Answer) → eqb (numberOf c) 11 ≡ false → Early later → Early (unless b c later)
-early-unless true c later h f = f
-early-unless false c later h f = λ d e. let same : d ≡ c = cc in ap (λ (x : Refusal). eqb (numberOf x) 11) same ∙ h
-
-early-andThen : (a later : Answer) → Early a → Early later → Early (andThen a later)
-early-andThen Done later f g = g
-early-andThen (Refused c) later f g = f
-
 pub batch-early : (n k : ℕ) (rows : List ℕ) (reading : Reading) (words : List ℕ) (slots bytes room : ℕ) (c : Refusal)
     → batchAnswer n k rows reading words slots bytes room ≡ Refused c → eqb (numberOf c) 11 ≡ false
-unfolding batchAnswer listsAnswer matrixAnswer shapeAnswer listAnswer
+unfolding batchAnswer listsAnswer listAnswer
 batch-early n k rows reading words slots bytes room =
-    early-andThen (matrixAnswer n k rows) _
-    (early-andThen (shapeAnswer n k rows) _
-    (early-unless (inRange n k) OutOfRange _ refl
-    (early-unless (eqb (length rows) k) RowCount _ refl
-    (early-unless (eqb (firstOutside n rows) (length rows)) (RowOutside (firstOutside n rows)) Done refl early-done)))
-    (early-unless (eqb (firstDependent rows) (length rows)) (Dependent (firstDependent rows)) Done refl early-done))
+    early-andThen (matrixAnswer n k rows) _ (early-matrix n k rows)
     (early-andThen (radiusAnswer reading (dmin rows)) _ (radius reading)
     (early-andThen (listAnswer words n (min slots bytes)) _
     (early-unless (leb (length words) maxWords) TooManyWords _ refl

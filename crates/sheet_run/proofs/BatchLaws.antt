@@ -23,13 +23,14 @@ use Rattle.words.proofs.ShapeLaws.{andThen-done}
 use Rattle.linear.proofs.AcceptLaws.{accepted-in}
 use Rattle.weights.proofs.DescribeLaws.{distance-is}
 use Rattle.outcomes.specs.Outcome.{takes, outcomeOf, wordIn, countIn}
-use Rattle.outcomes.specs.Causes.{batchAnswer, leaderAnswer, decodeAnswer}
+use Rattle.outcomes.specs.Causes.{batchAnswer, decodeAnswer}
+use Rattle.leaders.specs.Leaders.{leaderAnswer}
 use Rattle.decoder.specs.Decoded.{decodedAs, wordOf, countOf, Decoded}
 use Rattle.outcomes.specs.declared.outcome.Reading.{Reading}
 use Rattle.outcomes.specs.declared.outcome.Outcome.{Outcome}
 use Rattle.outcomes.specs.declared.outcome.Outcome.the-variants.{Clean, Mended, Far}
 use Rattle.outcomes.proofs.CauseLaws.{Passed, batch-in}
-use Rattle.decoder.proofs.DecodedLaws.{leader-weight}
+use Rattle.leaders.proofs.BuiltLaws.{leader-weight}
 use Rattle.sheet_run.specs.Output.{ending, wordLine, wordLines, refusedLine, codeLine, linesOf, batchOutput}
 use Rattle.sheet_run.specs.Slots.{slotEnding, slotLine, slotLines}
 

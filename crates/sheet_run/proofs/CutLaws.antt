@@ -21,7 +21,8 @@ use Rattle.words.specs.declared.answer.Answer.{Answer}
 use Rattle.words.specs.declared.answer.Answer.the-variants.{Done, Refused}
 use Rattle.words.proofs.ShapeLaws.{range-in}
 use Rattle.linear.proofs.AcceptLaws.{shape-refused}
-use Rattle.outcomes.specs.Causes.{radiusAnswer, listsAnswer, batchAnswer, leaderAnswer, decodeAnswer}
+use Rattle.outcomes.specs.Causes.{radiusAnswer, listsAnswer, batchAnswer, decodeAnswer}
+use Rattle.leaders.specs.Leaders.{leaderAnswer}
 use Rattle.outcomes.specs.declared.outcome.Reading.{Reading}
 use Rattle.outcomes.proofs.CauseLaws.{at-matrix}
 use Rattle.sheet_run.specs.Output.{linesOf, batchOutput}

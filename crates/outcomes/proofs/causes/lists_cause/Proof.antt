@@ -5,7 +5,8 @@ use borrow.Author.Tests.{le-leb, lt-leb}
 use native.Mathlib.Omega.{arith}
 use Rattle.words.specs.Lists.{listAnswer}
 use Rattle.coding.proofs.MachineLaws.{shl-one}
-use Rattle.outcomes.specs.Causes.{workAnswer, listsAnswer}
+use Rattle.outcomes.specs.Causes.{listsAnswer}
+use Rattle.leaders.specs.Leaders.{workAnswer}
 use Rattle.outcomes.proofs.CauseLaws.{at-list, at-work}
 use borrow.Author.Needs.{needs}
 use Rattle.outcomes.proofs.causes.lists_cause.Statement.{statement}

@@ -6,11 +6,11 @@ use lib.ListN.{length, set, length-set, length-replicate}
 use Rattle.coding.specs.Matrix.{encode}
 use Rattle.coding.specs.Leader.{noLeader}
 use Rattle.coding.specs.Order.{order, fills, blanks}
-use Rattle.decoder.proofs.TryLaws.{Offered, offered-start, offered-trying, offered-next}
+use Rattle.leaders.proofs.TryLaws.{Offered, offered-start, offered-trying, offered-next}
 use borrow.Author.Needs.{needs}
 use native.Mathlib.Omega.{arith}
-use Rattle.decoder.proofs.leaders.fill_list.Statement.{statement}
-use Rattle.decoder.proofs.leaders.fill_list.Tie as tie
+use Rattle.leaders.proofs.build.fill_list.Statement.{statement}
+use Rattle.leaders.proofs.build.fill_list.Tie as tie
 
 abbrev Inv-loop : tie.InvT-loop
 Inv-loop list₀ cols n c left₀ t₀ list left t = (1 ≤ t) × (t ≤ c + 1) × Offered (length list₀) cols n t list left

@@ -10,8 +10,8 @@ use Rattle.coding.specs.Leader.{noLeader}
 use Rattle.coding.proofs.SearchLaws.{first-is}
 use borrow.Author.Needs.{needs}
 use native.Mathlib.Omega.{arith}
-use Rattle.decoder.proofs.leaders.first_blank.Statement.{statement}
-use Rattle.decoder.proofs.leaders.first_blank.Tie as tie
+use Rattle.leaders.proofs.build.first_blank.Statement.{statement}
+use Rattle.leaders.proofs.build.first_blank.Tie as tie
 
 abbrev Inv-loop : tie.InvT-loop
 Inv-loop list s₀ s = (s ≤ length list) × ((j : ℕ) → j < s → eqb (getD list j 0) noLeader ≡ false)

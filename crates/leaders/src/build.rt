@@ -1,18 +1,23 @@
 // Part 4: the leaders. The words are tried by rising weight, of equal weight by rising number, with the syndrome kept along by one
 // column a step; a word takes the entry of its syndrome where that is blank, and the build ends when none is.
+use checks::check::parity_checks;
 use checks::check::syndrome;
+use words::answer::Answer;
+use words::answer::Refusal;
 use words::limits::MAX_CHECKS;
 use words::limits::WIDTH;
 ghost use mathlib.Core.Path.{_≡_};
 ghost use Prim.Native.Nat.{ℕ, suc, _+_, _<_, _≤_, _^_};
 ghost use lib.Dec.{eqb};
 ghost use lib.ListN.{length, getD};
-ghost use Rattle.coding.specs.Lists.{first};
+ghost use Rattle.coding.specs.Lists.{blank, first};
 ghost use Rattle.coding.specs.Matrix.{encode};
 ghost use Rattle.coding.specs.Check.{syndrome};
 ghost use Rattle.coding.specs.Leader.{noLeader};
 ghost use Rattle.coding.specs.Order.{words, order, fills, blanks};
-ghost use Rattle.decoder.specs.Built.{columnsOf, Trying, Tried, BuiltList};
+ghost use Rattle.words.specs.Limits.{maxChecks};
+ghost use Rattle.leaders.specs.Leaders.{LeadersOf};
+ghost use Rattle.leaders.specs.Built.{columnsOf, Trying, Tried, BuiltList};
 
 // The entry of a syndrome that has no leader yet.
 const BLANK: u32 = 4294967295;
@@ -175,11 +180,50 @@ fn first_blank(list: &[u32]) -> usize
 }
 
 // The list becomes the leaders; answers the first syndrome that has none, or the number of syndromes.
-pub(crate) fn build(checks: &[u32; MAX_CHECKS], n: usize, c: usize, list: &mut [u32]) -> usize
+fn build(checks: &[u32; MAX_CHECKS], n: usize, c: usize, list: &mut [u32]) -> usize
     requires { ⌜ (n ≤ 32) × (c < 32) × (length (now list) ≡ 2 ^ c) × ((w : ℕ) → syndrome (now checks) w < 2 ^ c) ⌝ }
     ensures { λ r. ⌜ BuiltList (now (checks .entry)) n c (now (list .exit)) r ⌝ }
 {
     let cols = columns(checks);
     fill_list(list, &cols, n, c);
     first_blank(list)
+}
+
+// The answer to a matrix and the length of a list; where the leaders stand in the list, the check rows that give their syndromes, else 0.
+pub struct Leaders {
+    pub answer: Answer,
+    pub checks: [u32; MAX_CHECKS],
+}
+
+fn refused(answer: Answer) -> Leaders
+    ensures { λ r. ⌜ (r .answer ≡ answer) × (r .checks ≡ blank maxChecks) ⌝ }
+{
+    Leaders {
+        answer,
+        checks: [0u32; MAX_CHECKS],
+    }
+}
+
+// The first 2^(n - k) entries become the leaders by syndrome: causes 1 to 4, 9 and 11.
+pub fn leaders_of(n: u32, k: u32, rows: &[u32], list: &mut [u32]) -> Leaders
+    ensures { λ r. ⌜ LeadersOf n k (now (rows .entry)) (now (list .entry)) r (now (list .exit)) ⌝ }
+{
+    let c = parity_checks(n, k, rows);
+    let a = c.answer;
+    let Answer::Done = a else {
+        return refused(a);
+    };
+    let size = 1usize << (n - k);
+    if list.len() < size {
+        return refused(Answer::Refused(Refusal::ShortWork));
+    }
+    let checks = c.rows;
+    let bad = build(&checks, n as usize, (n - k) as usize, &mut list[..size]);
+    if bad != size {
+        return refused(Answer::Refused(Refusal::NoLeader(bad)));
+    }
+    Leaders {
+        answer: Answer::Done,
+        checks,
+    }
 }

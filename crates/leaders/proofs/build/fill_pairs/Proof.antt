@@ -3,11 +3,11 @@ use mathlib.Core.Path.{_≡_, _∙_}
 use Prim.Native.Nat.{ℕ, _-_, _≤_, _<_}
 use native.Mathlib.Omega.{arith}
 use Rattle.coding.proofs.MachineLaws.{shl-one}
-use Rattle.decoder.specs.Built.{Tried}
-use Rattle.decoder.proofs.TryLaws.{tried-long, pairs-start, pair-fits, pair-trying, pair-next}
+use Rattle.leaders.specs.Built.{Tried}
+use Rattle.leaders.proofs.TryLaws.{tried-long, pairs-start, pair-fits, pair-trying, pair-next}
 use borrow.Author.Needs.{needs}
-use Rattle.decoder.proofs.leaders.fill_pairs.Statement.{statement}
-use Rattle.decoder.proofs.leaders.fill_pairs.Tie as tie
+use Rattle.leaders.proofs.build.fill_pairs.Statement.{statement}
+use Rattle.leaders.proofs.build.fill_pairs.Tie as tie
 
 abbrev Inv-loop : tie.InvT-loop
 Inv-loop list₀ cols m prefix s blank left₀ p₀ list left p = (1 ≤ p) × (p ≤ m) × Tried list₀ cols p 2 prefix list left

@@ -7,11 +7,11 @@ use mathlib.Core.List.{List}
 use Rattle.coding.specs.Matrix.{encode}
 use Rattle.coding.specs.Order.{order, fills, blanks}
 use Rattle.coding.proofs.MatrixLaws.{encode-lt}
-use Rattle.decoder.specs.Built.{columnsOf}
-use Rattle.decoder.proofs.TryLaws.{columns-long, columns-inside}
+use Rattle.leaders.specs.Built.{columnsOf}
+use Rattle.leaders.proofs.TryLaws.{columns-long, columns-inside}
 use borrow.Author.Needs.{needs}
-use Rattle.decoder.proofs.leaders.build.Statement.{statement}
-use Rattle.decoder.proofs.leaders.build.Tie as tie
+use Rattle.leaders.proofs.build.build.Statement.{statement}
+use Rattle.leaders.proofs.build.build.Tie as tie
 
 columns-requires : tie.Need-columns-requires
 columns-requires c κs = search needs

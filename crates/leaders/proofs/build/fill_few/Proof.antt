@@ -4,8 +4,8 @@ use mathlib.Core.Logic.{_≢_}
 use Prim.Native.Nat.{ℕ, _≤_, _<_}
 use native.Mathlib.Omega.{arith}
 use borrow.Author.Needs.{needs}
-use Rattle.decoder.proofs.leaders.fill_few.Statement.{statement}
-use Rattle.decoder.proofs.leaders.fill_few.Tie as tie
+use Rattle.leaders.proofs.build.fill_few.Statement.{statement}
+use Rattle.leaders.proofs.build.fill_few.Tie as tie
 
 two : {t : ℕ} → 1 ≤ t → t < 3 → t ≢ 1 → t ≡ 2
 two a b c = omega (arith, a, b, c)

@@ -9,8 +9,8 @@ use borrow.Author.Fill.{fill-none, fill-more}
 use Rattle.coding.specs.Leader.{noLeader}
 use borrow.Author.Needs.{needs}
 use native.Mathlib.Omega.{arith}
-use Rattle.decoder.proofs.leaders.clear.Statement.{statement}
-use Rattle.decoder.proofs.leaders.clear.Tie as tie
+use Rattle.leaders.proofs.build.clear.Statement.{statement}
+use Rattle.leaders.proofs.build.clear.Tie as tie
 
 abbrev Inv-loop : tie.InvT-loop
 Inv-loop list₀ i₀ list i = (i ≤ length list₀) × (length list ≡ length list₀) × (list ≡ replicate i noLeader ++ drop i list₀)

@@ -20,7 +20,7 @@ use Rattle.coding.proofs.MatrixLaws.{encode-xor, encode-zero, row-message}
 use Rattle.coding.proofs.LinearLaws.{syndrome-columns}
 use Rattle.coding.proofs.CountLaws.{length-tabulate, getD-tabulate}
 use Rattle.coding.proofs.BuildLaws.{fill-blank, fill-held, fills-length, fills-step, fills-done, words-few, words-unit, fills-snoc, fills-append, blank-set, blank-all}
-use Rattle.decoder.specs.Built.{columnsOf, Trying, Tried}
+use Rattle.leaders.specs.Built.{columnsOf, Trying, Tried}
 
 -- ---- the columns
 

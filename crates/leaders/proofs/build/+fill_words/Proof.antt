@@ -4,16 +4,16 @@ use mathlib.Core.Path.{_≡_, _∙_}
 use mathlib.Core.Logic.{_≢_}
 use native.Mathlib.Omega.{arith}
 use Rattle.coding.proofs.MachineLaws.{shl-one}
-use Rattle.decoder.proofs.TryLaws.{tried-long, tried-done, tried-few, trying-low, trying-high, tried-both, top-fits}
+use Rattle.leaders.proofs.TryLaws.{tried-long, tried-done, tried-few, trying-low, trying-high, tried-both, top-fits}
 use Prim.Native.Nat.{ℕ, _-_, _≤_, _<_}
 use borrow.Fn.Kinds.{In}
 use borrow.Fn.PlainCycle.{Measures, is, falls, and}
-use Rattle.decoder.proofs.leaders.fill_words.Reads as fill-words
-use Rattle.decoder.proofs.leaders.fill_words.Kinds as fill-words-kinds
-use Rattle.decoder.proofs.leaders.+fill_words.Lts-fill_words as fill-words-lts
-use Rattle.decoder.proofs.leaders.fill_few.Reads as fill-few-reads
-use Rattle.decoder.proofs.leaders.+fill_words.{statement}
-use Rattle.decoder.proofs.leaders.+fill_words.Tie.{close}
+use Rattle.leaders.proofs.build.fill_words.Reads as fill-words
+use Rattle.leaders.proofs.build.fill_words.Kinds as fill-words-kinds
+use Rattle.leaders.proofs.build.+fill_words.Lts-fill_words as fill-words-lts
+use Rattle.leaders.proofs.build.fill_few.Reads as fill-few-reads
+use Rattle.leaders.proofs.build.+fill_words.{statement}
+use Rattle.leaders.proofs.build.+fill_words.Tie.{close}
 
 abbrev μ-fill-words : Measures 2 fill-words-kinds.ps ℕ
 μ-fill-words κs a = a .1 .1 .0

@@ -7,12 +7,12 @@ use Rattle.coding.specs.Lists.{blank}
 use Rattle.coding.specs.Check.{syndrome}
 use Rattle.coding.proofs.MachineLaws.{shl-one}
 use Rattle.coding.proofs.ListLaws.{over, over-set, over-whole}
-use Rattle.decoder.specs.Built.{columnsOf}
-use Rattle.decoder.proofs.TryLaws.{columns-long, columns-at}
+use Rattle.leaders.specs.Built.{columnsOf}
+use Rattle.leaders.proofs.TryLaws.{columns-long, columns-at}
 use borrow.Author.Needs.{needs}
 use native.Mathlib.Omega.{arith}
-use Rattle.decoder.proofs.leaders.columns.Statement.{statement}
-use Rattle.decoder.proofs.leaders.columns.Tie as tie
+use Rattle.leaders.proofs.build.columns.Statement.{statement}
+use Rattle.leaders.proofs.build.columns.Tie as tie
 
 abbrev Inv-loop : tie.InvT-loop
 Inv-loop checks cols₀ p₀ cols p = (p ≤ 32) × (cols ≡ over (columnsOf checks) (blank 32) p)

@@ -9,10 +9,10 @@ use borrow.Author.Needs.{scaled-fits}
 use Rattle.coding.specs.Word.{_⊕_}
 use Rattle.coding.specs.Leader.{noLeader}
 use Rattle.coding.proofs.MachineLaws.{shl-one}
-use Rattle.decoder.proofs.TryLaws.{Units, units-start, units-long, unit-at, unit-entry, unit-fits, unit-left, unit-stored, unit-held, units-end, units-full}
+use Rattle.leaders.proofs.TryLaws.{Units, units-start, units-long, unit-at, unit-entry, unit-fits, unit-left, unit-stored, unit-held, units-end, units-full}
 use native.Mathlib.Omega.{arith}
-use Rattle.decoder.proofs.leaders.fill_units.Statement.{statement}
-use Rattle.decoder.proofs.leaders.fill_units.Tie as tie
+use Rattle.leaders.proofs.build.fill_units.Statement.{statement}
+use Rattle.leaders.proofs.build.fill_units.Tie as tie
 
 abbrev Inv-loop : tie.InvT-loop
 Inv-loop list₀ cols m prefix s blank left₀ p₀ list left p = (length list ≡ length list₀) × Units list₀ cols m prefix list left p

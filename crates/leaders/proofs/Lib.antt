@@ -1,0 +1,4 @@
+mod TryLaws
+pub mod EarlyLaws
+pub mod BuiltLaws
+pub mod PromiseLaws

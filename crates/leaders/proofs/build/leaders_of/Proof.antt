@@ -1,0 +1,157 @@
+-- `leaders::build::leaders_of`: the causes in order, then the build, which leaves no entry blank. Assumes nothing.
+use mathlib.Core.Path.{_≡_, refl, sym, ap, _∙_}
+use Prim.Native.Nat.{_-_, _^_, _≤_, _<_}
+use native.Mathlib.Omega.{arith}
+use lib.ListN.{length}
+use lib.Seq.{length-take-le}
+use Rattle.coding.specs.Lists.{padded}
+use Rattle.coding.specs.Check.{checks}
+use Rattle.words.specs.Limits.{maxChecks}
+use Rattle.linear.specs.Accepted.{Accepted}
+use Rattle.linear.proofs.AcceptLaws.{accepted-in}
+use Rattle.leaders.proofs.EarlyLaws.{early-matrix}
+use Rattle.leaders.proofs.BuiltLaws.{checks-below, leaders-are, none-blank}
+use Rattle.leaders.proofs.PromiseLaws.{matrix-refuses, leaders-refused, size-is, short-refuses, leaders-written}
+use borrow.Author.Needs.{needs}
+use Rattle.leaders.proofs.build.leaders_of.Statement.{statement}
+use Rattle.leaders.proofs.build.leaders_of.Tie as tie
+
+parity-checks-requires : tie.Need-parity-checks-requires
+parity-checks-requires c κs = search needs
+
+enum-told : tie.Need-enum-told
+enum-told c = search needs
+
+enum-told-2 : tie.Need-enum-told-2
+enum-told-2 c = search needs
+
+refused-requires : tie.Need-refused-requires
+refused-requires c κs = search needs
+
+returns : tie.Need-returns
+returns c =
+    let p = c .before .before .before in
+    let a = p .before .before .before .args in
+    let e = c .before .enum-told2 .given .1 in
+    let m = sym (p .parity-checks .ensures .answer) ∙ e in
+    leaders-refused (a .n) (a .k) (a .rows .now) (a .list .now) _ _ (c .refused .ensures .0 ∙ e) (c .refused .ensures .1)
+    (early-matrix (a .n) (a .k) (a .rows .now) _ m) (matrix-refuses (a .n) (a .k) (a .rows .now) (length (a .list .now)) _ m)
+
+-- the matrix is accepted
+accepted : (t : tie.After-enum-told)
+    → Accepted (t .before .before .before .before .before .args .n) (t .before .before .before .before .before .args .k) (t .before .before .before .before .before .args .rows .now)
+accepted t =
+    let a = t .before .before .before .before .before .args in
+    accepted-in (a .n) (a .k) (a .rows .now) (sym (t .before .before .parity-checks .ensures .answer) ∙ t .enum-told .given .1)
+
+sub-size : tie.Need-sub-size
+sub-size c = omega (arith, accepted c .range .checks)
+
+cast-size : tie.Need-cast-size
+cast-size c = search needs
+
+shl-size : tie.Need-shl-size
+shl-size c = omega (arith, accepted c .range .checks)
+
+refused-requires-2 : tie.Need-refused-requires-2
+refused-requires-2 c κs = search needs
+
+returns-2 : tie.Need-returns-2
+returns-2 c =
+    let t = c .before .before in
+    let a = t .before .before .before .before .before .args in
+    let short : length (a .list .now) < 2 ^ (a .n - a .k) = rw (size-is (a .n) (a .k) (a .rows .now) (accepted t)) at (c .before .if1 .taken) in
+    leaders-refused (a .n) (a .k) (a .rows .now) (a .list .now) _ _ (c .refused2 .ensures .0) (c .refused2 .ensures .1) refl
+    (short-refuses (a .n) (a .k) (a .rows .now) (accepted t) (length (a .list .now)) short)
+
+-- the list is long enough, and the check rows are those of the matrix
+room : (e : tie.Else1) → 2 ^ (e .before .before .before .before .before .before .args .n - e .before .before .before .before .before .before .args .k)
+    ≤ length (e .before .before .before .before .before .before .args .list .now)
+room e =
+    let a = e .before .before .before .before .before .before .args in
+    rw (size-is (a .n) (a .k) (a .rows .now) (accepted (e .before))) at (e .if1 .left)
+
+rows-are : (t : tie.After-enum-told)
+    → t .before .before .parity-checks .result .rows
+    ≡ padded maxChecks (checks (t .before .before .before .before .before .args .n) (t .before .before .before .before .before .args .rows .now))
+rows-are t = rw (t .enum-told .given .1) at (t .before .before .parity-checks .ensures .rows-are)
+
+sub-build : tie.Need-sub-build
+sub-build c = omega (arith, accepted (c .before .before .before) .range .checks)
+
+cast-build : tie.Need-cast-build
+cast-build c = search needs
+
+slice-relend-prefix-build : tie.Need-slice-relend-prefix-build
+slice-relend-prefix-build c = search needs
+
+slice-aggregate-build : tie.Need-slice-aggregate-build
+slice-aggregate-build c =
+    let e = c .before .before .before in
+    let a = e .before .before .before .before .before .before .args in
+    rw (size-is (a .n) (a .k) (a .rows .now) (accepted (e .before))) (sym (length-take-le (2 ^ (a .n - a .k)) (a .list .now) (room e)))
+
+build-requires : tie.Need-build-requires
+build-requires c κs =
+    let e = c .before .before .before in
+    let a = e .before .before .before .before .before .before .args in
+    let A = accepted (e .before) in
+    rw (size-is (a .n) (a .k) (a .rows .now) A) (
+      omega (arith, A .range .places),
+      omega (arith, A .range .checks),
+      length-take-le (2 ^ (a .n - a .k)) (a .list .now) (room e),
+      λ w. rw (rows-are (e .before)) (checks-below (a .n) (a .k) (a .rows .now) A w),
+    )
+
+refused-requires-3 : tie.Need-refused-requires-3
+refused-requires-3 c κs = search needs
+
+same-length : tie.Need-same-length
+same-length c = search needs
+
+returns-3 : tie.Need-returns-3
+returns-3 c =
+    let b = c .before .before .before .before in
+    let t = b .before .before .before .before .before in
+    let a = t .before .before .before .before .before .args in
+    let A = accepted t in
+    absurd (c .before .if2 .taken
+    (none-blank (a .n) (a .k) (a .rows .now) A _ _ (rw (rows-are t) at (b .build .ensures)) ∙ sym (size-is (a .n) (a .k) (a .rows .now) A)))
+
+same-length-2 : tie.Need-same-length-2
+same-length-2 c = search needs
+
+returns-4 : tie.Need-returns-4
+returns-4 c =
+    let b = c .before .before .before in
+    let e = b .before .before .before .before in
+    let a = e .before .before .before .before .before .before .args in
+    let A = accepted (e .before) in
+    rw (size-is (a .n) (a .k) (a .rows .now) A)
+    (leaders-written (a .n) (a .k) (a .rows .now) A (a .list .now) (room e) _ refl (rows-are (e .before)) _
+    (leaders-are (a .n) (a .k) (a .rows .now) A _ _ (rw (rows-are (e .before)) at (b .build .ensures))))
+
+pub leaders-of-spec : {M : Type 1} → statement M
+leaders-of-spec =
+    tie.close
+    (tie.spec
+    parity-checks-requires
+    enum-told
+    enum-told-2
+    refused-requires
+    returns
+    sub-size
+    cast-size
+    shl-size
+    refused-requires-2
+    returns-2
+    sub-build
+    cast-build
+    slice-relend-prefix-build
+    slice-aggregate-build
+    build-requires
+    refused-requires-3
+    same-length
+    returns-3
+    same-length-2
+    returns-4)

@@ -1,0 +1,2 @@
+// Coset leaders: document 01, part 4.
+pub mod build;
