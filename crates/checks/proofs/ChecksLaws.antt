@@ -1,21 +1,27 @@
 -- Laws of the check rows that are read off the table of an accepted matrix: they are those of the definitions in n places, and tell
 -- the codewords. Assumes nothing.
-use mathlib.Core.Path.{_≡_, ap, _∙_}
+use mathlib.Core.Path.{_≡_, sym, ap, _∙_}
 use mathlib.Core.Logic.{_↔_}
 use mathlib.Core.List.{List, map}
 use Prim.Native.Nat.{ℕ, _-_, _^_, _≤_, _<_}
 use native.Mathlib.Omega.{arith}
 use lib.ListN.{length, getD, take}
-use Rattle.coding.specs.Lists.{padded}
+use Rattle.coding.specs.Lists.{blank, padded}
 use Rattle.coding.specs.Word.{_⊕_}
 use Rattle.coding.specs.Matrix.{Codeword}
 use Rattle.coding.specs.Reduced.{reduce, freesFrom}
 use Rattle.coding.specs.Check.{check, column, checks, syndrome}
 use Rattle.coding.proofs.ListLaws.{map-same}
+use Rattle.coding.proofs.CheckRowLaws.{check-rows}
 use Rattle.coding.proofs.ReduceLaws.{syndrome-codeword}
 use Rattle.coding.proofs.WidthLaws.{column-zeros, syndrome-zeros}
 use Rattle.words.specs.Limits.{maxChecks}
-use Rattle.linear.specs.Accepted.{Accepted}
+use Rattle.words.specs.Refusal.{ifDone}
+use Rattle.words.specs.declared.answer.Answer.the-variants.{Done}
+use Rattle.linear.specs.Accepted.{matrixAnswer, Accepted}
+use Rattle.linear.proofs.AcceptLaws.{accepted-in}
+use Rattle.checks.specs.Checks.{ParityChecks}
+use Rattle.checks.specs.declared.check.Checks.{Checks}
 use Rattle.linear.proofs.TableLaws.{frees-are, wide, table-take}
 use Rattle.checks.proofs.PackLaws.{checksFrom}
 
@@ -35,3 +41,17 @@ module _ (n k : ℕ) (rows : List ℕ) (A : Accepted n k rows) where
       where
         same : (q : ℕ) → check table q ≡ check (reduce n rows) q
         same q = ap (λ (x : ℕ). 2 ^ q ⊕ x) (ap (λ (l : List ℕ). column l q) (wide n k rows A table is) ∙ column-zeros (reduce n rows) (32 - n) q)
+
+-- the check rows of an accepted matrix are those of its places that are no pivot, and tell the codewords
+pub parity-checks : (n k : ℕ) (rows : List ℕ) (r : Checks) → r .answer ≡ matrixAnswer n k rows
+    → r .rows ≡ ifDone (r .answer) (padded maxChecks (checks n rows)) (blank maxChecks) → ParityChecks n k rows r
+parity-checks n k rows r a e = record {
+  answer = a;
+  rows-are = e;
+  count = λ d. frees-are n k rows (accepted d);
+  check-rows = λ d. check-rows n rows (accepted d .inside);
+  codewords = λ d. let q : r .rows ≡ padded maxChecks (checks n rows) = rw d at e in rw q (codeword-syndrome n k rows (accepted d));
+}
+  where
+    accepted : r .answer ≡ Done → Accepted n k rows
+    accepted d = accepted-in n k rows (sym a ∙ d)

@@ -8,17 +8,18 @@ use Rattle.coding.specs.Lists.{blank, padded}
 use Rattle.coding.specs.Matrix.{Codeword, messageOf}
 use Rattle.coding.specs.Reduced.{reduce, reducedRows, pivots, Traced}
 use Rattle.coding.specs.Check.{checks, frees, CheckRow, syndrome}
-use Rattle.words.specs.Limits.{maxChecks}
+use Rattle.words.specs.Limits.{maxRows, maxChecks}
 use Rattle.words.specs.Refusal.{ifDone}
 use Rattle.linear.specs.Accepted.{matrixAnswer}
 use Rattle.words.specs.declared.answer.Answer.the-variants.{Done}
 use Rattle.checks.specs.declared.check.Checks.{Checks}
 use Rattle.checks.specs.declared.check.Code.{Code}
 
--- causes 1 to 4; the n - k check rows and 0 after them, or 0 at every entry; and listed by pivot the messages of the reduced rows,
+-- causes 1 to 4; the k reduced rows and the n - k check rows, 0 after them, or 0 at every entry; and listed by pivot the messages of the reduced rows,
 -- 0 beside a place that is no pivot, or 0 at every entry: each has its reduced row as its codeword
 pub record CodeOf (n k : ℕ) (rows : List ℕ) (r : Code) : Type 0 where
   pub answer : r .answer ≡ matrixAnswer n k rows
+  pub rows-are : r .rows ≡ ifDone (r .answer) (padded maxRows (reducedRows n rows)) (blank maxRows)
   pub checks-are : r .checks ≡ ifDone (r .answer) (padded maxChecks (checks n rows)) (blank maxChecks)
   pub messages-are : r .messages ≡ ifDone (r .answer) (map (messageOf rows) (reduce 32 rows)) (blank 32)
   pub traced : r .answer ≡ Done → Traced rows (r .messages) (reduce 32 rows)

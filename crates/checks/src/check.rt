@@ -2,6 +2,7 @@
 use linear::reduce::reduce;
 use words::answer::Answer;
 use words::limits::MAX_CHECKS;
+use words::limits::MAX_ROWS;
 use words::limits::WIDTH;
 use words::word::parity;
 use words::word::place;
@@ -99,10 +100,11 @@ fn check_rows(table: &[u32], n: usize) -> [u32; MAX_CHECKS]
     checks
 }
 
-// What parts 1 and 2 give for an accepted matrix: its check rows, and beside each pivot a message that has the reduced row of
+// What parts 1 and 2 give for an accepted matrix: its reduced rows, its check rows, and beside each pivot a message that has the reduced row of
 // that pivot as its codeword; 0 at every other entry.
 pub struct Code {
     pub answer: Answer,
+    pub rows: [u32; MAX_ROWS],
     pub checks: [u32; MAX_CHECKS],
     pub messages: [u32; WIDTH],
 }
@@ -115,15 +117,18 @@ pub fn code_of(n: u32, k: u32, rows: &[u32]) -> Code
     let Answer::Done = answer else {
         return Code {
             answer,
+            rows: [0u32; MAX_ROWS],
             checks: [0u32; MAX_CHECKS],
             messages: [0u32; WIDTH],
         };
     };
     let table = r.table;
     let checks = check_rows(&table, n as usize);
+    let rows = r.rows;
     let messages = r.messages;
     Code {
         answer: Answer::Done,
+        rows,
         checks,
         messages,
     }

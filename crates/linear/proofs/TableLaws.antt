@@ -6,19 +6,28 @@ use Prim.Native.Nat.{ℕ, _+_, _-_, _^_, _≤_, _<_}
 use native.Mathlib.Omega.{arith}
 use lib.ListN.{length, getD, take, length-map}
 use lib.Seq.{take-at, ext-getD}
-use Rattle.coding.specs.Lists.{blank}
+use Rattle.coding.specs.Lists.{blank, padded}
 use Rattle.coding.specs.Matrix.{encode, Codeword, messageOf, IsMessage}
-use Rattle.coding.specs.Reduced.{reduce, rowsOf, freesFrom, reducedRows, Traced}
+use Rattle.coding.specs.Reduced.{reduce, rowsOf, freesFrom, ReducedForm, reducedRows, pivots, Traced}
 use Rattle.coding.proofs.ListLaws.{getD-map}
 use Rattle.coding.proofs.ReduceLaws.{whole}
 use Rattle.coding.proofs.EliminateLaws.{check-count}
 use Rattle.coding.proofs.CompactLaws.{rows-count}
+use Rattle.coding.proofs.EchelonLaws.{reducedRows-form}
+use Rattle.coding.proofs.UniqueLaws.{reducedForm-unique}
 use Rattle.coding.proofs.WidthLaws.{inside-wide, reduce-wide, rows-zeros}
 use Rattle.coding.proofs.TraceLaws.{Trace, traced-at, trace-message, trace-is, message-back}
-use Rattle.words.specs.declared.answer.Answer.the-variants.{Done}
-use Rattle.linear.specs.Accepted.{Accepted}
+use Rattle.words.specs.Limits.{maxRows}
+use Rattle.words.specs.Refusal.{ifDone}
+use Rattle.words.specs.declared.answer.Refusal.{Refusal}
+use Rattle.words.specs.declared.answer.Answer.the-variants.{Done, Refused}
+use Rattle.words.proofs.ShapeLaws.{refused-done}
+use Rattle.linear.specs.Accepted.{matrixAnswer, Accepted}
+use Rattle.linear.specs.ReducedRows.{ReducedRows}
 use Rattle.linear.specs.Reduction.{ReductionOf}
 use Rattle.linear.specs.declared.reduce.Reduction.{Reduction}
+use Rattle.linear.specs.declared.reduce.Reduced.{Reduced}
+use Rattle.linear.proofs.AcceptLaws.{accepted-in}
 
 module _ (n k : ℕ) (rows : List ℕ) (A : Accepted n k rows) where
   -- the reduced rows have an entry for each place
@@ -70,3 +79,31 @@ module _ (n k : ℕ) (rows : List ℕ) (A : Accepted n k rows) where
 -- the table of an accepted matrix
 pub table-of : {n k : ℕ} {rows : List ℕ} {r : Reduction} → ReductionOf n k rows r → r .answer ≡ Done → r .table ≡ reduce 32 rows
 table-of R d = rw d at (R .table-is)
+
+-- a refusal has 0 in every other part
+pub reduction-refused : (n k : ℕ) (rows : List ℕ) (r : Reduction) (c : Refusal) → r .answer ≡ Refused c
+    → (r .rows ≡ blank maxRows) × (r .table ≡ blank 32) × (r .messages ≡ blank 32) → matrixAnswer n k rows ≡ Refused c → ReductionOf n k rows r
+reduction-refused n k rows r c e (x, y, z) m = record {
+  answer = e ∙ sym m;
+  rows-are = rw e x;
+  table-is = rw e y;
+  messages-are = rw e z;
+  traced = λ d. refused-done (sym e ∙ d);
+}
+
+-- the reduced rows of an accepted matrix are its reduced row echelon form, the only one
+pub reduced-rows : (n k : ℕ) (rows : List ℕ) (r : Reduced) → r .answer ≡ matrixAnswer n k rows
+    → r .rows ≡ ifDone (r .answer) (padded maxRows (reducedRows n rows)) (blank maxRows) → ReducedRows n k rows r
+reduced-rows n k rows r a e = record {
+  answer = a;
+  rows-are = e;
+  count = λ d. rows-are n k rows (accepted d);
+  form = λ d. form d;
+  only = λ d B P F. reducedForm-unique rows B (reducedRows n rows) P (pivots n rows) F (form d);
+}
+  where
+    accepted : r .answer ≡ Done → Accepted n k rows
+    accepted d = accepted-in n k rows (sym a ∙ d)
+
+    form : r .answer ≡ Done → ReducedForm rows (reducedRows n rows) (pivots n rows)
+    form d = reducedRows-form n rows (accepted d .inside)

@@ -10,7 +10,7 @@ ghost use mathlib.Core.Path.{_≡_};
 ghost use Prim.Native.Nat.{_<_, _≤_, _^_};
 ghost use lib.ListN.{length, set};
 ghost use Rattle.coding.specs.Matrix.{Inside};
-ghost use Rattle.coding.specs.Lists.{padded};
+ghost use Rattle.coding.specs.Lists.{blank, padded};
 ghost use Rattle.coding.specs.Reduced.{wipes, rowsOf};
 ghost use Rattle.words.specs.Limits.{maxRows};
 ghost use Rattle.linear.specs.Eliminated.{Eliminated};
@@ -76,47 +76,23 @@ pub(crate) fn eliminate(rows: &[u32]) -> Elimination
     }
 }
 
-// The answer to a matrix, and where it is accepted its reduced rows by pivot with their messages; 0 at every other entry.
+// The answer to a matrix; where it is accepted, its k reduced rows, and by pivot these rows and their messages; 0 at every other entry.
 pub struct Reduction {
     pub answer: Answer,
+    pub rows: [u32; MAX_ROWS],
     pub table: [u32; WIDTH],
     pub messages: [u32; WIDTH],
 }
 
-// Causes 1 to 4, and the elimination that tells the fourth.
-pub fn reduce(n: u32, k: u32, rows: &[u32]) -> Reduction
-    ensures { λ r. ⌜ ReductionOf n k (now (rows .entry)) r ⌝ }
+fn refused(answer: Answer) -> Reduction
+    ensures { λ r. ⌜ (r .answer ≡ answer) × (r .rows ≡ blank maxRows) × (r .table ≡ blank 32) × (r .messages ≡ blank 32) ⌝ }
 {
-    let a = shape(n, k, rows);
-    let Answer::Done = a else {
-        return Reduction {
-            answer: a,
-            table: [0u32; WIDTH],
-            messages: [0u32; WIDTH],
-        };
-    };
-    let e = eliminate(rows);
-    let rank = e.rank;
-    if rank != rows.len() {
-        return Reduction {
-            answer: Answer::Refused(Refusal::Dependent(rank)),
-            table: [0u32; WIDTH],
-            messages: [0u32; WIDTH],
-        };
-    }
-    let table = e.table;
-    let messages = e.messages;
     Reduction {
-        answer: Answer::Done,
-        table,
-        messages,
+        answer,
+        rows: [0u32; MAX_ROWS],
+        table: [0u32; WIDTH],
+        messages: [0u32; WIDTH],
     }
-}
-
-// The answer to a matrix, and where it is accepted its k reduced rows; 0 at every other entry.
-pub struct Reduced {
-    pub answer: Answer,
-    pub rows: [u32; MAX_ROWS],
 }
 
 // The rows of a table by place, without the places that are no pivot.
@@ -137,21 +113,42 @@ fn compact(table: &[u32]) -> [u32; MAX_ROWS]
     rows
 }
 
+// Causes 1 to 4, and the elimination that tells the fourth.
+pub fn reduce(n: u32, k: u32, rows: &[u32]) -> Reduction
+    ensures { λ r. ⌜ ReductionOf n k (now (rows .entry)) r ⌝ }
+{
+    let a = shape(n, k, rows);
+    let Answer::Done = a else {
+        return refused(a);
+    };
+    let e = eliminate(rows);
+    let rank = e.rank;
+    if rank != rows.len() {
+        return refused(Answer::Refused(Refusal::Dependent(rank)));
+    }
+    let table = e.table;
+    let messages = e.messages;
+    let listed = compact(&table);
+    Reduction {
+        answer: Answer::Done,
+        rows: listed,
+        table,
+        messages,
+    }
+}
+
+// The answer to a matrix, and where it is accepted its k reduced rows; 0 at every other entry.
+pub struct Reduced {
+    pub answer: Answer,
+    pub rows: [u32; MAX_ROWS],
+}
+
 // The reduced row echelon form of an accepted matrix.
 pub fn reduced_rows(n: u32, k: u32, rows: &[u32]) -> Reduced
     ensures { λ r. ⌜ ReducedRows n k (now (rows .entry)) r ⌝ }
 {
     let r = reduce(n, k, rows);
-    let a = r.answer;
-    let Answer::Done = a else {
-        return Reduced {
-            answer: a,
-            rows: [0u32; MAX_ROWS],
-        };
-    };
-    let table = r.table;
-    Reduced {
-        answer: Answer::Done,
-        rows: compact(&table),
-    }
+    let answer = r.answer;
+    let rows = r.rows;
+    Reduced { answer, rows }
 }

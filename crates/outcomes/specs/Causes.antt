@@ -2,7 +2,6 @@
 use mathlib.Core.List.{List}
 use Prim.Native.Nat.{ℕ, _+_, _-_, _*_, _^_, min}
 use lib.Dec.{leb}
-use Rattle.coding.specs.Lists.{both}
 use Rattle.coding.specs.Weight.{dmin}
 use Rattle.words.specs.Refusal.{unless, andThen}
 use Rattle.linear.specs.Accepted.{matrixAnswer}

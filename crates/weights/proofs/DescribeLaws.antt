@@ -2,8 +2,7 @@
 -- word it holds is a lightest codeword. Assumes nothing.
 use mathlib.Core.Path.{_≡_, refl, sym, ap, _∙_}
 use mathlib.Core.Logic.{_≢_}
-use mathlib.Core.List.{List, _++_}
-use mathlib.Core.Bool.{Bool, true, false}
+use mathlib.Core.List.{List}
 use Prim.Native.Nat.{ℕ, suc, _+_, _-_, _^_, _≤_, _<_}
 use native.Mathlib.Decide.{decLe}
 use native.Mathlib.Omega.{arith}
@@ -12,16 +11,22 @@ use lib.ListN.{length, getD, length-append, length-replicate, getD-replicate, Li
 use lib.Seq.{ext-getD, getD-append-add}
 use lib.Count.{ones-le}
 use borrow.Author.Tests.{eq-eqb, ne-eqb}
-use Rattle.coding.specs.Lists.{blank, padded, tabulate}
+use Rattle.coding.specs.Lists.{blank, padded}
 use Rattle.coding.specs.Word.{weight}
-use Rattle.coding.specs.Matrix.{encode, Codeword}
+use Rattle.coding.specs.Matrix.{encode}
 use Rattle.coding.specs.Weight.{count, weightCount, weightCounts, dmin, MinimumDistance, Lightest}
 use Rattle.coding.proofs.WeightLaws.{weight-zero}
 use Rattle.coding.proofs.MatrixLaws.{encode-lt}
 use Rattle.coding.proofs.CountLaws.{length-tabulate, getD-tabulate, count-none, count-some}
-use Rattle.coding.proofs.WeightCountLaws.{weightCount-messages}
+use Rattle.coding.proofs.WeightCountLaws.{weightCount-messages, weightCounts-total}
 use Rattle.coding.proofs.DistanceLaws.{minimum-distance}
-use Rattle.linear.specs.Accepted.{Accepted}
+use Rattle.words.specs.declared.answer.Refusal.{Refusal}
+use Rattle.words.specs.declared.answer.Answer.the-variants.{Done, Refused}
+use Rattle.words.proofs.ShapeLaws.{refused-done}
+use Rattle.linear.specs.Accepted.{matrixAnswer, Accepted}
+use Rattle.linear.proofs.AcceptLaws.{in-accepted}
+use Rattle.weights.specs.Described.{WeightsOf}
+use Rattle.weights.specs.declared.weights.Weights.{Weights}
 use Rattle.weights.specs.Walked.{Walked}
 use Rattle.weights.specs.declared.walk.Walk.{Walk}
 use Rattle.weights.proofs.WalkLaws.{least-found}
@@ -96,3 +101,28 @@ module _ (n k : ℕ) (rows : List ℕ) (A : Accepted n k rows) where
       where
         zero-light : w .lightest ≡ 0 → weight (w .lightest) ≡ w .least → ⊥
         zero-light z q = omega (arith, sym q ∙ ap weight z ∙ weight-zero, least-is, distance-is .bounds)
+
+    -- the parts of part 3 are read off the walk
+    pub walked-weights : WeightsOf n k rows (record { answer = Done; dmin = w .least; counts = w .counts; lightest = w .lightest })
+    walked-weights = record {
+      answer = sym (in-accepted n k rows A);
+      dmin-is = least-is;
+      counts-are = counts-are;
+      distance = λ _. distance-is;
+      sum = λ _. weightCounts-total n rows (A .inside) (A .independent) ∙ ap (λ (x : ℕ). 2 ^ x) (A .count);
+      lightest = λ _. lightest-is;
+      none = refl;
+    }
+
+-- on a refusal every other part is 0
+pub refused-weights : (n k : ℕ) (rows : List ℕ) (r : Weights) (c : Refusal) → r .answer ≡ Refused c → matrixAnswer n k rows ≡ Refused c
+    → (r .dmin ≡ 0) × (r .counts ≡ blank 33) × (r .lightest ≡ 0) → WeightsOf n k rows r
+refused-weights n k rows r c e m (x, y, z) = record {
+  answer = e ∙ sym m;
+  dmin-is = rw e x;
+  counts-are = rw e y;
+  distance = λ d. refused-done (sym e ∙ d);
+  sum = λ d. refused-done (sym e ∙ d);
+  lightest = λ d. refused-done (sym e ∙ d);
+  none = rw e z;
+}

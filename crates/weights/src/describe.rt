@@ -1,11 +1,13 @@
 // Describe: what a matrix's code is, by value.
-use crate::weights::weights_of;
-use checks::check::parity_checks;
-use linear::reduce::reduced_rows;
+use crate::walk::walk_all;
+use checks::check::code_of;
 use words::answer::Answer;
 use words::limits::MAX_CHECKS;
 use words::limits::MAX_ROWS;
 use words::limits::WIDTH;
+ghost use mathlib.Core.Path.{_≡_};
+ghost use Rattle.coding.specs.Lists.{blank};
+ghost use Rattle.words.specs.Limits.{maxRows, maxChecks};
 ghost use Rattle.weights.specs.Described.{Described};
 
 // The answer to a matrix; where it is accepted, its reduced rows, check rows, minimum distance, weight counts and a codeword of
@@ -19,22 +21,38 @@ pub struct Description {
     pub lightest: u32,
 }
 
+fn refused(answer: Answer) -> Description
+    ensures { λ r. ⌜ (r .answer ≡ answer) × (r .rows ≡ blank maxRows) × (r .checks ≡ blank maxChecks) × (r .dmin ≡ 0) × (r .counts ≡ blank 33) × (r .lightest ≡ 0) ⌝ }
+{
+    Description {
+        answer,
+        rows: [0u32; MAX_ROWS],
+        checks: [0u32; MAX_CHECKS],
+        dmin: 0,
+        counts: [0u32; WIDTH + 1],
+        lightest: 0,
+    }
+}
+
+// One elimination and one walk over the codewords.
 pub fn describe(n: u32, k: u32, rows: &[u32]) -> Description
     ensures { λ r. ⌜ Described n k (now (rows .entry)) r ⌝ }
 {
-    let reduced = reduced_rows(n, k, rows);
-    let checks = parity_checks(n, k, rows);
-    let w = weights_of(n, k, rows);
-    let answer = w.answer;
-    let first = reduced.rows;
-    let second = checks.rows;
-    let counts = w.counts;
+    let c = code_of(n, k, rows);
+    let a = c.answer;
+    let Answer::Done = a else {
+        return refused(a);
+    };
+    let walk = walk_all(rows);
+    let first = c.rows;
+    let second = c.checks;
+    let counts = walk.counts;
     Description {
-        answer,
+        answer: Answer::Done,
         rows: first,
         checks: second,
-        dmin: w.dmin,
+        dmin: walk.least,
         counts,
-        lightest: w.lightest,
+        lightest: walk.lightest,
     }
 }

@@ -1,4 +1,4 @@
--- `linear::check::check_rows`: the check rows of the free places below q are packed in front of zeros. Assumes nothing.
+-- `checks::check::check_rows`: the check rows of the free places below q are packed in front of zeros. Assumes nothing.
 use mathlib.Core.Path.{_≡_, ap₂}
 use mathlib.Core.Logic.{⊎-elim}
 use mathlib.Core.List.{List}

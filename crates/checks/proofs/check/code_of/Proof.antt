@@ -1,4 +1,4 @@
--- `linear::check::code_of`: the table of an accepted matrix gives the check rows of the definition. Assumes nothing.
+-- `checks::check::code_of`: the table of an accepted matrix gives the check rows of the definition. Assumes nothing.
 use mathlib.Core.Path.{refl, sym, ap, _∙_}
 use Rattle.coding.specs.Lists.{padded}
 use Rattle.words.specs.Limits.{maxChecks}
@@ -24,7 +24,7 @@ enum-told-2 c = search needs
 returns : tie.Need-returns
 returns c =
     let e = c .enum-told2 .given .1 in
-    record { answer = c .before .before .reduce .ensures .answer; checks-are = rw e refl; messages-are = rw e refl; traced = λ d. refused-done (sym e ∙ d) }
+    record { answer = c .before .before .reduce .ensures .answer; rows-are = rw e refl; checks-are = rw e refl; messages-are = rw e refl; traced = λ d. refused-done (sym e ∙ d) }
 
 slice-aggregate-check-rows : tie.Need-slice-aggregate-check-rows
 slice-aggregate-check-rows c = search needs
@@ -43,7 +43,7 @@ check-rows-requires c κs =
 
 returns-2 : tie.Need-returns-2
 returns-2 c =
-    let q = c .before in
+    let q = c .before .before in
     let t = q .before .before .before in
     let R = t .before .before .reduce in
     let a = t .before .before .before .before .args in
@@ -51,6 +51,7 @@ returns-2 c =
     let A : Accepted (a .n) (a .k) (a .rows .now) = accepted-in (a .n) (a .k) (a .rows .now) (sym (R .ensures .answer) ∙ d) in
     record {
       answer = sym d ∙ R .ensures .answer;
+      rows-are = rw d at (R .ensures .rows-are);
       checks-are = q .check-rows .ensures ∙ ap (padded maxChecks) (checks-are (a .n) (a .k) (a .rows .now) A (R .result .table) (table-of (R .ensures) d));
       messages-are = rw d at (R .ensures .messages-are);
       traced = λ _. R .ensures .traced d;

@@ -1,7 +1,7 @@
--- `linear::check::column`: c holds place q of the rows from p on. Assumes nothing.
-use mathlib.Core.Path.{_≡_, refl, sym, ap, _∙_}
-use Prim.Native.Nat.{ℕ, _*_, _+_, _^_, _≤_, _<_, _-_}
-use lib.ListN.{length, getD, drop}
+-- `checks::check::column`: c holds place q of the rows from p on. Assumes nothing.
+use mathlib.Core.Path.{_≡_, sym, ap}
+use Prim.Native.Nat.{_≤_, _-_}
+use lib.ListN.{length, drop}
 use lib.Seq.{drop-length}
 use Rattle.coding.specs.Check.{places}
 use Rattle.coding.proofs.CheckLaws.{places-back, places-fit}

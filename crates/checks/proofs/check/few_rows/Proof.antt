@@ -1,4 +1,4 @@
--- `linear::check::few_rows`: the rows from the fifth on, so far, are 0. Assumes nothing.
+-- `checks::check::few_rows`: the rows from the fifth on, so far, are 0. Assumes nothing.
 use mathlib.Core.Path.{_≡_, refl, sym, _∙_}
 use mathlib.Core.List.{List}
 use Prim.Native.Nat.{ℕ, _+_, _-_, _≤_, _<_}

@@ -1,4 +1,4 @@
--- `linear::check::first_parities`: the part lent on is the first four rows. Assumes nothing.
+-- `checks::check::first_parities`: the part lent on is the first four rows. Assumes nothing.
 use mathlib.Core.Path.{sym}
 use native.Mathlib.Omega.{arith}
 use lib.Seq.{length-take-le}

@@ -1,4 +1,4 @@
--- `linear::check::syndrome`: rows that are 0 have parity 0, so the first four say all where the others are. Assumes nothing.
+-- `checks::check::syndrome`: rows that are 0 have parity 0, so the first four say all where the others are. Assumes nothing.
 use mathlib.Core.Path.{_≡_, sym, ap, _∙_}
 use mathlib.Core.List.{List, _++_}
 use Prim.Native.Nat.{ℕ, _-_}

@@ -1,4 +1,4 @@
--- `linear::encode::encode`: the causes group by group, then the row sums. Assumes nothing.
+-- `encoder::encode::encode`: the causes group by group, then the row sums. Assumes nothing.
 use mathlib.Core.Path.{sym, _∙_}
 use lib.ListN.{length}
 use Rattle.coding.specs.Matrix.{encode}

@@ -1,4 +1,4 @@
--- `linear::encode::row_sums`: the first i slots are the row sums, the others are as they were. Assumes nothing.
+-- `encoder::encode::row_sums`: the first i slots are the row sums, the others are as they were. Assumes nothing.
 use mathlib.Core.Path.{_≡_, sym, ap, _∙_}
 use mathlib.Core.List.{List, map}
 use Prim.Native.Nat.{ℕ, _≤_, _<_, _-_}

@@ -1,4 +1,4 @@
--- `linear::message::first_other`: the words before i have syndrome 0. Assumes nothing.
+-- `encoder::message::first_other`: the words before i have syndrome 0. Assumes nothing.
 use mathlib.Core.Path.{_≡_, sym, ap, _∙_}
 use mathlib.Core.Bool.{false, not}
 use Prim.Native.Nat.{ℕ, _≤_, _<_, _-_}

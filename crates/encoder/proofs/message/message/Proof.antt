@@ -1,4 +1,4 @@
--- `linear::message::message`: the causes group by group, then the sums of the messages at the pivots. Assumes nothing.
+-- `encoder::message::message`: the causes group by group, then the sums of the messages at the pivots. Assumes nothing.
 use mathlib.Core.Path.{_≡_, refl, sym, ap, _∙_}
 use mathlib.Core.List.{List, _++_}
 use Prim.Native.Nat.{ℕ}

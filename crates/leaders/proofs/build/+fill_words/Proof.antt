@@ -1,4 +1,4 @@
--- `decoder::leaders::fill_words`: the recursion is the definition's, the words without the highest place and then those with it; the
+-- `leaders::build::fill_words`: the recursion is the definition's, the words without the highest place and then those with it; the
 -- number of places falls. Assumes nothing.
 use mathlib.Core.Path.{_≡_, _∙_}
 use mathlib.Core.Logic.{_≢_}

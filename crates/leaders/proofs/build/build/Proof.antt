@@ -1,4 +1,4 @@
--- `decoder::leaders::build`: the columns give every syndrome an entry. Assumes nothing.
+-- `leaders::build::build`: the columns give every syndrome an entry. Assumes nothing.
 use mathlib.Core.Path.{_≡_, sym, ap, _∙_}
 use Prim.Native.Nat.{ℕ, suc, _^_}
 use lib.ListN.{length}

@@ -1,4 +1,4 @@
--- `decoder::leaders::clear`: the first i entries are blank. Assumes nothing.
+-- `leaders::build::clear`: the first i entries are blank. Assumes nothing.
 use mathlib.Core.Path.{_≡_, refl, sym, ap, _∙_}
 use mathlib.Core.List.{List, _++_}
 use Prim.Native.Nat.{ℕ, _≤_, _<_, _-_}

@@ -1,4 +1,4 @@
--- `decoder::leaders::columns`: the first p entries are columns. Assumes nothing.
+-- `leaders::build::columns`: the first p entries are columns. Assumes nothing.
 use mathlib.Core.Path.{_≡_, refl, sym, ap, _∙_}
 use mathlib.Core.List.{List}
 use Prim.Native.Nat.{ℕ, _≤_, _<_, _-_, _^_}

@@ -1,4 +1,4 @@
--- `decoder::leaders::fill_few`: one or two ones. Assumes nothing.
+-- `leaders::build::fill_few`: one or two ones. Assumes nothing.
 use mathlib.Core.Path.{_≡_}
 use mathlib.Core.Logic.{_≢_}
 use Prim.Native.Nat.{ℕ, _≤_, _<_}

@@ -1,4 +1,4 @@
--- `decoder::leaders::fill_list`: the words of weight below t have been offered. Assumes nothing.
+-- `leaders::build::fill_list`: the words of weight below t have been offered. Assumes nothing.
 use mathlib.Core.Path.{_≡_, sym, ap, _∙_}
 use Prim.Native.Nat.{ℕ, suc, _≤_, _<_, _-_, _+_}
 use native.Mathlib.Numerals.{add-one}

@@ -1,4 +1,4 @@
--- `decoder::leaders::fill_pairs`: the pairs of places below p have been tried. Assumes nothing.
+-- `leaders::build::fill_pairs`: the pairs of places below p have been tried. Assumes nothing.
 use mathlib.Core.Path.{_≡_, _∙_}
 use Prim.Native.Nat.{ℕ, _-_, _≤_, _<_}
 use native.Mathlib.Omega.{arith}

@@ -1,4 +1,4 @@
--- `decoder::leaders::fill_units`: the words prefix + 2 ^ i for the places i below p have been tried. Assumes nothing.
+-- `leaders::build::fill_units`: the words prefix + 2 ^ i for the places i below p have been tried. Assumes nothing.
 use mathlib.Core.Path.{_≡_, refl, sym, ap, _∙_}
 use mathlib.Core.Logic.{⊎-elim}
 use mathlib.Core.List.{List}

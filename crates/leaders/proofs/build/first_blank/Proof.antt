@@ -1,4 +1,4 @@
--- `decoder::leaders::first_blank`: no entry before s is blank. Assumes nothing.
+-- `leaders::build::first_blank`: no entry before s is blank. Assumes nothing.
 use mathlib.Core.Path.{_≡_, sym}
 use mathlib.Core.Bool.{false}
 use Prim.Native.Nat.{ℕ, _≤_, _<_, _-_}

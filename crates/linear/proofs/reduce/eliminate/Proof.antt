@@ -1,15 +1,15 @@
 -- `linear::reduce::eliminate`: after i rows the table is their reduced form with its messages; within a row, x is cleared at the
 -- pivots before p and has the message m. Assumes nothing.
-use mathlib.Core.Path.{_≡_, refl, sym, ap, ap₂, _∙_}
+use mathlib.Core.Path.{_≡_, refl, sym, ap, _∙_}
 use mathlib.Core.Logic.{_≢_}
 use mathlib.Core.List.{List}
-use Prim.Native.Nat.{ℕ, _/_, _%_, _^_, _≤_, _<_, _-_, _+_}
+use Prim.Native.Nat.{ℕ, _≤_, _<_, _-_}
 use lib.ListN.{length, getD, take, set}
 use lib.Pow.{pow-lt}
 use lib.Count.{trailingZeros, trailing-le}
-use Rattle.coding.specs.Word.{_⊕_, bit}
-use Rattle.coding.specs.Matrix.{sel, Depends}
-use Rattle.coding.specs.Reduced.{rest, wipes, put, reduce, Traced}
+use Rattle.coding.specs.Word.{bit}
+use Rattle.coding.specs.Matrix.{Depends}
+use Rattle.coding.specs.Reduced.{rest, put, reduce, Traced}
 use Rattle.coding.proofs.MachineLaws.{shl-one}
 use Rattle.coding.proofs.MatrixLaws.{row-message}
 use Rattle.coding.proofs.PivotLaws.{ByPlace, Cleared, cleared-start, cleared-step, cleared-end, cleared-zero}

@@ -1,10 +1,9 @@
 -- `linear::reduce::put`: the first p entries are those of the wiped list. Assumes nothing.
 use mathlib.Core.Path.{_≡_, sym, ap, ap₂, _∙_}
 use mathlib.Core.List.{List}
-use Prim.Native.Nat.{ℕ, _/_, _%_, _^_, _≤_, _<_, _-_, _+_}
+use Prim.Native.Nat.{ℕ, _≤_, _-_}
 use lib.ListN.{length, getD, set}
-use Rattle.coding.specs.Word.{_⊕_, bit}
-use Rattle.coding.specs.Matrix.{sel}
+use Rattle.coding.specs.Word.{_⊕_}
 use Rattle.coding.specs.Reduced.{wipes}
 use Rattle.coding.proofs.ListLaws.{over, over-set, over-next, over-whole}
 use Rattle.coding.proofs.TraceLaws.{wipes-at, wipes-length}

@@ -1,4 +1,4 @@
--- `decoder::causes::batch_cause`: the causes group by group. Assumes nothing.
+-- `outcomes::causes::batch_cause`: the causes group by group. Assumes nothing.
 use mathlib.Core.Path.{_≡_, sym, _∙_}
 use Rattle.linear.specs.Accepted.{matrixAnswer, Accepted}
 use Rattle.words.specs.declared.answer.Answer.the-variants.{Done}

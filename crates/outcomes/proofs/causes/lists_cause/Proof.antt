@@ -1,4 +1,4 @@
--- `decoder::causes::lists_cause`: causes 6 to 8, then 9. Assumes nothing.
+-- `outcomes::causes::lists_cause`: causes 6 to 8, then 9. Assumes nothing.
 use mathlib.Core.Path.{_≡_, sym, ap, _∙_}
 use Prim.Native.Nat.{_-_, _*_, _%_, _^_}
 use borrow.Author.Tests.{le-leb, lt-leb}

@@ -1,4 +1,4 @@
--- `decoder::causes::measured_cause`: the causes group by group, cause 5 by the minimum distance of the one walk. Assumes nothing.
+-- `outcomes::causes::measured_cause`: the causes group by group, cause 5 by the minimum distance of the one walk. Assumes nothing.
 use mathlib.Core.Path.{_≡_, sym, ap, _∙_}
 use Prim.Native.Nat.{_≤_}
 use Rattle.coding.specs.Weight.{dmin}

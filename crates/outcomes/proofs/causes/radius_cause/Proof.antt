@@ -1,4 +1,4 @@
--- `decoder::causes::radius_cause`: the minimum distance is that of the walk. Assumes nothing.
+-- `outcomes::causes::radius_cause`: the minimum distance is that of the walk. Assumes nothing.
 use mathlib.Core.Path.{_≡_, ap, _∙_}
 use Prim.Native.Nat.{_≤_}
 use Rattle.coding.specs.Weight.{dmin}

@@ -1,4 +1,4 @@
--- `decoder::causes::radius_test`: half of dmin - 1 is below the radius exactly when 2 r + 1 is above dmin. Assumes nothing.
+-- `outcomes::causes::radius_test`: half of dmin - 1 is below the radius exactly when 2 r + 1 is above dmin. Assumes nothing.
 use Rattle.outcomes.proofs.CauseLaws.{radius-large, radius-fits}
 use borrow.Author.Needs.{needs}
 use Rattle.outcomes.proofs.causes.radius_test.Statement.{statement}

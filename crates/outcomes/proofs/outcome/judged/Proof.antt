@@ -1,4 +1,4 @@
--- `decoder::outcomes::judged`: the tests in turn. Assumes nothing.
+-- `outcomes::outcome::judged`: the tests in turn. Assumes nothing.
 use mathlib.Core.Path.{sym, _∙_}
 use borrow.Author.Tests.{eq-eqb, ne-eqb, le-leb, lt-leb}
 use lib.Count.{ones-le}

@@ -1,45 +1,68 @@
--- `weights::describe::describe`: three calls on one matrix have one answer. Assumes nothing.
-use mathlib.Core.Path.{_≡_, sym, _∙_}
-use Rattle.linear.specs.ReducedRows.{ReducedRows}
-use Rattle.checks.specs.Checks.{ParityChecks}
+-- `weights::describe::describe`: what the code gives, and the walk. Assumes nothing.
+use mathlib.Core.Path.{sym, _∙_}
+use native.Mathlib.Omega.{arith}
+use Rattle.linear.proofs.AcceptLaws.{accepted-in}
+use Rattle.linear.proofs.TableLaws.{reduced-rows}
+use Rattle.checks.proofs.ChecksLaws.{parity-checks}
+use Rattle.weights.proofs.DescribeLaws.{walked-weights, refused-weights}
 use borrow.Author.Needs.{needs}
 use Rattle.weights.proofs.describe.describe.Statement.{statement}
 use Rattle.weights.proofs.describe.describe.Tie as tie
 
-reduced-rows-requires : tie.Need-reduced-rows-requires
-reduced-rows-requires c κs = search needs
+code-of-requires : tie.Need-code-of-requires
+code-of-requires c κs = search needs
 
-parity-checks-requires : tie.Need-parity-checks-requires
-parity-checks-requires c κs = search needs
+enum-told : tie.Need-enum-told
+enum-told c = search needs
 
-weights-of-requires : tie.Need-weights-of-requires
-weights-of-requires c κs = search needs
+enum-told-2 : tie.Need-enum-told-2
+enum-told-2 c = search needs
+
+refused-requires : tie.Need-refused-requires
+refused-requires c κs = search needs
 
 returns : tie.Need-returns
 returns c =
-    let w = c .before .before .before .weights-of in
-    let p = c .before .before .before .before .parity-checks in
-    let r = c .before .before .before .before .before .reduced-rows in
-    let e : r .result .answer ≡ w .result .answer = r .ensures .answer ∙ sym (w .ensures .answer) in
-    let f : p .result .answer ≡ w .result .answer = p .ensures .answer ∙ sym (w .ensures .answer) in
+    let t = c .before in
+    let a = t .before .before .before .before .args in
+    let e = t .enum-told2 .given .1 in
+    let m = sym (t .before .before .code-of .ensures .answer) ∙ e in
+    let z = c .refused .ensures in
+    let q = z .0 ∙ e in
     record {
-      reduced = record {
-        answer = w .ensures .answer;
-        rows-are = rw e at (r .ensures .rows-are);
-        count = λ d. r .ensures .count (e ∙ d);
-        form = λ d. r .ensures .form (e ∙ d);
-        only = λ d. r .ensures .only (e ∙ d);
-      };
-      checks = record {
-        answer = w .ensures .answer;
-        rows-are = rw f at (p .ensures .rows-are);
-        count = λ d. p .ensures .count (f ∙ d);
-        check-rows = λ d. p .ensures .check-rows (f ∙ d);
-        codewords = λ d. p .ensures .codewords (f ∙ d);
-      };
-      weights = w .ensures;
+      reduced = reduced-rows (a .n) (a .k) (a .rows .now) _ (q ∙ sym m) (rw q (z .1));
+      checks = parity-checks (a .n) (a .k) (a .rows .now) _ (q ∙ sym m) (rw q (z .2));
+      weights = refused-weights (a .n) (a .k) (a .rows .now) _ _ q m (z .3, z .4, z .5);
+    }
+
+walk-all-requires : tie.Need-walk-all-requires
+walk-all-requires c κs =
+    let a = c .before .before .before .before .args in
+    let A = accepted-in (a .n) (a .k) (a .rows .now) (sym (c .before .before .code-of .ensures .answer) ∙ c .enum-told .given .1) in
+    omega (arith, A .range .rows, A .count)
+
+returns-2 : tie.Need-returns-2
+returns-2 c =
+    let w = c .before .before .before in
+    let t = w .before in
+    let a = t .before .before .before .before .args in
+    let C = t .before .before .code-of .ensures in
+    let d = t .enum-told .given .1 in
+    let m = sym (C .answer) ∙ d in
+    record {
+      reduced = reduced-rows (a .n) (a .k) (a .rows .now) _ (sym m) (rw d at (C .rows-are));
+      checks = parity-checks (a .n) (a .k) (a .rows .now) _ (sym m) (rw d at (C .checks-are));
+      weights = walked-weights (a .n) (a .k) (a .rows .now) (accepted-in (a .n) (a .k) (a .rows .now) m) (w .walk-all .result) (w .walk-all .ensures);
     }
 
 pub describe-spec : {M : Type 1} → statement M
 describe-spec =
-    tie.close (tie.spec reduced-rows-requires parity-checks-requires weights-of-requires returns)
+    tie.close
+    (tie.spec
+    code-of-requires
+    enum-told
+    enum-told-2
+    refused-requires
+    returns
+    walk-all-requires
+    returns-2)

@@ -1,8 +1,8 @@
 -- `weights::walk::block_weights`: the first j entries are the weights of the first j words. Assumes nothing.
-use mathlib.Core.Path.{_≡_, refl, sym, ap, _∙_}
+use mathlib.Core.Path.{_≡_, sym, ap, _∙_}
 use mathlib.Core.List.{List, map}
 use Prim.Native.Nat.{ℕ, _≤_, _<_, _-_}
-use lib.ListN.{length, getD, set, length-set, length-map}
+use lib.ListN.{length, set, length-set, length-map}
 use Rattle.coding.specs.Word.{distance}
 use Rattle.coding.proofs.ListLaws.{over, over-set, over-whole, getD-map}
 use borrow.Author.Needs.{needs}

@@ -1,8 +1,8 @@
 -- `weights::walk::fill_block`: the first j entries are the codewords of the messages below j. Assumes nothing.
-use mathlib.Core.Path.{_≡_, refl, sym, ap, _∙_}
+use mathlib.Core.Path.{_≡_, sym, ap, _∙_}
 use mathlib.Core.List.{List}
 use Prim.Native.Nat.{ℕ, _≤_, _<_, _-_}
-use lib.ListN.{length, getD, set, length-set}
+use lib.ListN.{length, set, length-set}
 use Rattle.coding.specs.Lists.{tabulate}
 use Rattle.coding.specs.Matrix.{encode}
 use Rattle.coding.proofs.ListLaws.{over, over-set, over-whole}

@@ -1,10 +1,7 @@
 -- `weights::walk::least_of`: no weight from 1 to j - 1 has been counted. Assumes nothing.
-use mathlib.Core.Path.{_≡_, sym, ap, _∙_}
-use mathlib.Core.Bool.{false, not}
-use Prim.Native.Nat.{ℕ, suc, _≤_, _<_, _-_, _+_}
-use lib.Dec.{eqb}
-use lib.ListN.{length, getD}
-use borrow.Author.Tests.{eq-eqb, ne-eqb}
+use mathlib.Core.Path.{_≡_}
+use Prim.Native.Nat.{ℕ, _≤_, _<_, _-_}
+use lib.ListN.{getD}
 use Rattle.weights.proofs.WalkLaws.{least-found, passed}
 use borrow.Author.Needs.{needs}
 use native.Mathlib.Omega.{arith}

@@ -1,10 +1,9 @@
 -- `weights::walk::tally`: each count has grown by the words before i of that weight. Assumes nothing.
-use mathlib.Core.Path.{_≡_, refl, sym, ap, _∙_}
-use mathlib.Core.List.{List}
-use Prim.Native.Nat.{ℕ, _≤_, _<_, _-_, _+_, _^_}
+use mathlib.Core.Path.{_≡_, sym}
+use Prim.Native.Nat.{ℕ, _≤_, _<_, _-_, _+_}
 use native.Mathlib.Nat.{add-zero}
 use lib.Dec.{eqb}
-use lib.ListN.{length, getD, set, length-set}
+use lib.ListN.{length, getD, length-set}
 use Rattle.coding.specs.Weight.{count}
 use Rattle.coding.proofs.CountLaws.{count-le}
 use Rattle.weights.proofs.WalkLaws.{bumped}

@@ -1,6 +1,6 @@
 -- `weights::walk::walk_all`: the first rows make the block, the others are walked. Assumes nothing.
 use mathlib.Core.Path.{_≡_, refl, sym, ap, _∙_}
-use mathlib.Core.List.{List, _++_}
+use mathlib.Core.List.{_++_}
 use Prim.Native.Nat.{_-_}
 use lib.ListN.{length, take, drop, length-append}
 use lib.Seq.{length-take-le}

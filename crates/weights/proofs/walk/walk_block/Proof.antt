@@ -1,8 +1,8 @@
 -- `weights::walk::walk_block`: the block is tallied, and where the least weight has fallen a word of the block has it. Assumes nothing.
 use mathlib.Core.Path.{_≡_, refl, sym, ap, _∙_}
 use mathlib.Core.Logic.{inl, inr}
-use mathlib.Core.List.{List, map}
-use Prim.Native.Nat.{ℕ, _≤_, _<_, _+_, _^_}
+use mathlib.Core.List.{map}
+use Prim.Native.Nat.{ℕ, _<_, _^_}
 use lib.ListN.{length, getD, length-map}
 use Rattle.coding.specs.Word.{distance}
 use Rattle.weights.proofs.WalkLaws.{weights-small, block-grown, fallen, stayed}

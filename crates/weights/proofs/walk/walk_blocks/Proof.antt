@@ -1,7 +1,7 @@
 -- `weights::walk::walk_blocks`: after h blocks the messages below h times the block have been walked. Assumes nothing.
 use mathlib.Core.Path.{_≡_, refl, sym, ap, _∙_}
-use mathlib.Core.List.{List, _++_}
-use Prim.Native.Nat.{ℕ, _≤_, _<_, _-_, _+_, _*_, _%_, _^_}
+use mathlib.Core.List.{_++_}
+use Prim.Native.Nat.{ℕ, _≤_, _<_, _-_, _+_, _*_, _^_}
 use native.Mathlib.Nat.{zero-mul, mul-comm}
 use lib.ListN.{length}
 use lib.Pow.{pow-add}

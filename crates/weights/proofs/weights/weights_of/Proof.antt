@@ -1,9 +1,6 @@
 -- `weights::weights::weights_of`: the walk over an accepted matrix, in the words of part 3. Assumes nothing.
-use mathlib.Core.Path.{refl, sym, ap, _∙_}
-use Rattle.words.proofs.ShapeLaws.{refused-done}
-use Rattle.coding.proofs.WeightCountLaws.{weightCounts-total}
-use Rattle.weights.proofs.DescribeLaws.{distance-is, counts-are, least-is, lightest-is}
-use Prim.Native.Nat.{ℕ, _^_}
+use mathlib.Core.Path.{refl, sym, _∙_}
+use Rattle.weights.proofs.DescribeLaws.{walked-weights, refused-weights}
 use borrow.Author.Needs.{needs}
 use native.Mathlib.Omega.{arith}
 use Rattle.weights.proofs.weights.weights_of.Statement.{statement}
@@ -20,17 +17,10 @@ enum-told-2 c = search needs
 
 returns : tie.Need-returns
 returns c =
-    let e = c .enum-told2 .given .1 in
     let r = c .before .before .accept in
-    record {
-      answer = r .ensures .answer;
-      dmin-is = rw e refl;
-      counts-are = rw e refl;
-      distance = λ d. refused-done (sym e ∙ d);
-      sum = λ d. refused-done (sym e ∙ d);
-      lightest = λ d. refused-done (sym e ∙ d);
-      none = rw e refl;
-    }
+    let a = c .before .before .before .before .args in
+    let e = c .enum-told2 .given .1 in
+    refused-weights (a .n) (a .k) (a .rows .now) _ _ e (sym (r .ensures .answer) ∙ e) (refl, refl, refl)
 
 walk-all-requires : tie.Need-walk-all-requires
 walk-all-requires c κs =
@@ -41,19 +31,8 @@ returns-2 : tie.Need-returns-2
 returns-2 c =
     let t = c .before .before in
     let a = t .before .before .before .before .args in
-    let r = t .before .before .accept in
-    let d = t .enum-told .given .1 in
-    let A = r .ensures .accepted d in
-    let w = c .before .walk-all in
-    record {
-      answer = sym d ∙ r .ensures .answer;
-      dmin-is = least-is (a .n) (a .k) (a .rows .now) A (w .result) (w .ensures);
-      counts-are = counts-are (a .n) (a .k) (a .rows .now) A (w .result) (w .ensures);
-      distance = λ _. distance-is (a .n) (a .k) (a .rows .now) A;
-      sum = λ _. weightCounts-total (a .n) (a .rows .now) (A .inside) (A .independent) ∙ ap (λ (x : ℕ). 2 ^ x) (A .count);
-      lightest = λ _. lightest-is (a .n) (a .k) (a .rows .now) A (w .result) (w .ensures);
-      none = refl;
-    }
+    let A = t .before .before .accept .ensures .accepted (t .enum-told .given .1) in
+    walked-weights (a .n) (a .k) (a .rows .now) A (c .before .walk-all .result) (c .before .walk-all .ensures)
 
 pub weights-of-spec : {M : Type 1} → statement M
 weights-of-spec =

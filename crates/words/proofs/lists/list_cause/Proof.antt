@@ -1,4 +1,4 @@
--- `linear::encode::list_cause`: the causes in turn. Assumes nothing.
+-- `words::lists::list_cause`: the causes in turn. Assumes nothing.
 use borrow.Author.Tests.{eq-eqb, ne-eqb, le-leb, lt-leb}
 use Rattle.words.specs.Lists.{listAnswer}
 use borrow.Author.Needs.{needs}

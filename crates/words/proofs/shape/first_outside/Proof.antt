@@ -1,4 +1,4 @@
--- `linear::accept::first_outside`: no word before i has a one at place n or beyond. Assumes nothing.
+-- `words::shape::first_outside`: no word before i has a one at place n or beyond. Assumes nothing.
 use mathlib.Core.Path.{_≡_, sym, ap, _∙_}
 use mathlib.Core.Bool.{false, not}
 use Prim.Native.Nat.{ℕ, _^_, _≤_, _<_, _-_}

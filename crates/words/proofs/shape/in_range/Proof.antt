@@ -1,4 +1,4 @@
--- `linear::accept::in_range`: each test in turn. Assumes nothing.
+-- `words::shape::in_range`: each test in turn. Assumes nothing.
 use borrow.Author.Tests.{le-leb, lt-leb}
 use borrow.Author.Needs.{needs}
 use Rattle.words.proofs.shape.in_range.Statement.{statement}

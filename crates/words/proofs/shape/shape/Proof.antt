@@ -1,4 +1,4 @@
--- `linear::accept::shape`: the causes in turn. Assumes nothing.
+-- `words::shape::shape`: the causes in turn. Assumes nothing.
 use mathlib.Core.Path.{sym, _∙_}
 use borrow.Author.Tests.{eq-eqb, ne-eqb, not-true, not-false}
 use Rattle.words.specs.Shape.{shapeAnswer}

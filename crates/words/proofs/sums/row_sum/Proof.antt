@@ -1,4 +1,4 @@
--- `linear::encode::row_sum`: the sum so far, and the rows from i on with what is left of the message, make the codeword. Assumes nothing.
+-- `words::sums::row_sum`: the sum so far, and the rows from i on with what is left of the message, make the codeword. Assumes nothing.
 use mathlib.Core.Path.{_≡_, ap, _∙_}
 use Prim.Native.Nat.{ℕ, _≤_, _-_, _+_, _/_}
 use lib.ListN.{length, drop}

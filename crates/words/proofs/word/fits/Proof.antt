@@ -1,4 +1,4 @@
--- `linear::word::fits`: the shift tests the places from n on; from the width on there are none. Assumes nothing.
+-- `words::word::fits`: the shift tests the places from n on; from the width on there are none. Assumes nothing.
 use mathlib.Core.Path.{sym}
 use Prim.Native.Nat.{_^_}
 use native.Mathlib.Nat.{lt-of-lt-of-le}

@@ -1,4 +1,4 @@
--- `linear::word::masked`: the digit makes a mask of ones or of zeros. Assumes nothing.
+-- `words::word::masked`: the digit makes a mask of ones or of zeros. Assumes nothing.
 use lib.Bits.{and-mask}
 use native.Mathlib.Omega.{arith}
 use Rattle.coding.proofs.MachineLaws.{masked-digit}

@@ -1,4 +1,4 @@
--- `linear::word::parity`: the lowest digit of the count of ones. Assumes nothing.
+-- `words::word::parity`: the lowest digit of the count of ones. Assumes nothing.
 use lib.Bits.{bitAnd, and-mask}
 use lib.Count.{ones}
 use Rattle.coding.specs.Word.{parity}

@@ -1,4 +1,4 @@
--- `linear::word::place`: the place is shifted down and masked; from the width on there are none. Assumes nothing.
+-- `words::word::place`: the place is shifted down and masked; from the width on there are none. Assumes nothing.
 use mathlib.Core.Path.{sym}
 use Prim.Native.Nat.{_/_, _^_}
 use borrow.Author.Needs.{needs}

@@ -1,4 +1,4 @@
--- `linear::word::selected`: a row times a digit is the row or zero. Assumes nothing.
+-- `words::word::selected`: a row times a digit is the row or zero. Assumes nothing.
 use Prim.Native.Nat.{_%_}
 use native.Mathlib.Nat.{lt-of-le-of-lt}
 use Rattle.coding.proofs.MachineLaws.{times-digit, sel-le}
