@@ -23,7 +23,7 @@ def title(text):
     written('\n' + '-' * (16 - (len(text) + 2) % 16) + ' ' + text, 0)
 
 
-OPERATIONS = {'sum': 1, 'weight': 2, 'distance': 3, 'parity': 4, 'place': 5, 'selected': 6, 'masked': 7, 'fits': 8, 'in range': 9,
+OPERATIONS = {'sum': 1, 'weight': 2, 'distance': 3, 'parity': 4, 'place': 5, 'selected': 6, 'fits': 7, 'in range': 8,
               'accept': 10, 'reduced': 11, 'checks': 12, 'row sum': 13, 'weights': 14, 'lightest': 15, 'describe': 16,
               'encode': 20, 'message': 21, 'nearest': 22, 'within': 23, 'again': 24,
               'Golay encode': 30, 'Golay decode': 31, 'Golay message': 32, 'Golay messages': 33, 'Golay patterns': 34,

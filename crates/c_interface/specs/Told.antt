@@ -13,10 +13,8 @@ abbrev pub valueIn : Answer → ℕ
 valueIn Done = 0
 valueIn (Refused c) = valueOf c
 
--- number and value are those of an answer of which the statement holds; where it holds of one answer only, as each statement used here,
--- it fixes both (ToldLaws, told-is)
-pub record Told (holds : Answer → Type 0) (number value : ℕ) : Type 0 where
-  pub answer : Answer
+-- number and value are those of the answer, which a definition gives, and the statement of the operation holds of it
+pub record Told (holds : Answer → Type 0) (answer : Answer) (number value : ℕ) : Type 0 where
   pub number-is : number ≡ numberIn answer
   pub value-is : value ≡ valueIn answer
   pub holds-of : holds answer

@@ -10,9 +10,12 @@ use words::limits::MAX_ROWS;
 use words::limits::WIDTH;
 ghost use mathlib.Core.Path.{_≡_};
 ghost use Rattle.coding.specs.Lists.{pick};
-ghost use Rattle.encoder.specs.Encoded.{Encoded};
-ghost use Rattle.encoder.specs.MessagesRead.{MessagesRead};
+ghost use lib.ListN.{length};
+ghost use Rattle.linear.specs.Accepted.{matrixAnswer};
+ghost use Rattle.encoder.specs.Encoded.{encodeAnswer, Encoded};
+ghost use Rattle.encoder.specs.MessagesRead.{messageAnswer, MessagesRead};
 ghost use Rattle.weights.specs.Described.{Described};
+ghost use Rattle.outcomes.specs.Causes.{decodeAnswer};
 ghost use Rattle.decoder.specs.Decoded.{Decoded};
 ghost use Rattle.outcomes.specs.declared.outcome.Reading.the-variants.{Nearest, Within};
 ghost use Rattle.c_interface.specs.Told.{Told};
@@ -30,7 +33,7 @@ pub extern "C" fn relay_describe(
     lightest: &mut u32,
     value: &mut usize,
 ) -> u32
-    ensures { λ r. ⌜ Told (λ a. Described n k (now (rows .entry)) (record { answer = a; rows = now (reduced .exit); checks = now (checks .exit); dmin = now (dmin .exit); counts = now (counts .exit); lightest = now (lightest .exit) })) r (now (value .exit)) ⌝ }
+    ensures { λ r. ⌜ Told (λ a. Described n k (now (rows .entry)) (record { answer = a; rows = now (reduced .exit); checks = now (checks .exit); dmin = now (dmin .exit); counts = now (counts .exit); lightest = now (lightest .exit) })) (matrixAnswer n k (now (rows .entry))) r (now (value .exit)) ⌝ }
 {
     let d = describe(n, k, rows);
     let first = d.rows;
@@ -55,7 +58,7 @@ pub extern "C" fn relay_encode(
     out: &mut [u32],
     value: &mut usize,
 ) -> u32
-    ensures { λ r. ⌜ Told (λ a. Encoded n k (now (rows .entry)) (now (messages .entry)) (now (out .entry)) a (now (out .exit))) r (now (value .exit)) ⌝ }
+    ensures { λ r. ⌜ Told (λ a. Encoded n k (now (rows .entry)) (now (messages .entry)) (now (out .entry)) a (now (out .exit))) (encodeAnswer n k (now (rows .entry)) (now (messages .entry)) (length (now (out .entry)))) r (now (value .exit)) ⌝ }
 {
     let a = encode(n, k, rows, messages, out);
     tell(a, value)
@@ -71,7 +74,7 @@ pub extern "C" fn relay_message(
     out: &mut [u32],
     value: &mut usize,
 ) -> u32
-    ensures { λ r. ⌜ Told (λ a. MessagesRead n k (now (rows .entry)) (now (words .entry)) (now (out .entry)) a (now (out .exit))) r (now (value .exit)) ⌝ }
+    ensures { λ r. ⌜ Told (λ a. MessagesRead n k (now (rows .entry)) (now (words .entry)) (now (out .entry)) a (now (out .exit))) (messageAnswer n k (now (rows .entry)) (now (words .entry)) (length (now (out .entry)))) r (now (value .exit)) ⌝ }
 {
     let a = message(n, k, rows, words, out);
     tell(a, value)
@@ -101,7 +104,7 @@ pub extern "C" fn relay_decode(
     work: &mut [u32],
     value: &mut usize,
 ) -> u32
-    ensures { λ r. ⌜ Told (λ a. Decoded n k (now (rows .entry)) (pick within (Within radius) Nearest) (now (words .entry)) (now (out .entry)) (now (counts .entry)) (now (work .entry)) a (now (out .exit)) (now (counts .exit)) (now (work .exit))) r (now (value .exit)) ⌝ }
+    ensures { λ r. ⌜ Told (λ a. Decoded n k (now (rows .entry)) (pick within (Within radius) Nearest) (now (words .entry)) (now (out .entry)) (now (counts .entry)) (now (work .entry)) a (now (out .exit)) (now (counts .exit)) (now (work .exit))) (decodeAnswer n k (now (rows .entry)) (pick within (Within radius) Nearest) (now (words .entry)) (length (now (out .entry))) (length (now (counts .entry))) (length (now (work .entry)))) r (now (value .exit)) ⌝ }
 {
     let reading = reading_of(within, radius);
     let a = decode(n, k, rows, reading, words, out, counts, work);

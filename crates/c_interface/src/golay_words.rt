@@ -2,15 +2,15 @@
 use crate::told::tell;
 use golay::decode::decode;
 use golay::encode::encode;
-ghost use Rattle.golay.specs.Encoded.{Encoded};
-ghost use Rattle.golay.specs.Decoded.{Decoded};
-ghost use Rattle.golay.specs.MessageRead.{MessageRead};
+ghost use Rattle.golay.specs.Encoded.{encodeAnswer, Encoded};
+ghost use Rattle.golay.specs.Decoded.{decodeAnswer, Decoded};
+ghost use Rattle.golay.specs.MessageRead.{messageAnswer, MessageRead};
 ghost use Rattle.c_interface.specs.Told.{Told};
 
 // Writes the codeword of a message of 12 places.
 #[no_mangle]
 pub extern "C" fn relay_golay_encode(message: u32, word: &mut u32, value: &mut usize) -> u32
-    ensures { λ r. ⌜ Told (λ a. Encoded message (record { answer = a; word = now (word .exit) })) r (now (value .exit)) ⌝ }
+    ensures { λ r. ⌜ Told (λ a. Encoded message (record { answer = a; word = now (word .exit) })) (encodeAnswer message) r (now (value .exit)) ⌝ }
 {
     let c = encode(message);
     *word = c.word;
@@ -26,7 +26,7 @@ pub extern "C" fn relay_golay_decode(
     count: &mut u8,
     value: &mut usize,
 ) -> u32
-    ensures { λ r. ⌜ Told (λ a. Decoded received (record { answer = a; word = now (word .exit); count = now (count .exit) })) r (now (value .exit)) ⌝ }
+    ensures { λ r. ⌜ Told (λ a. Decoded received (record { answer = a; word = now (word .exit); count = now (count .exit) })) (decodeAnswer received) r (now (value .exit)) ⌝ }
 {
     let d = decode(received);
     *word = d.word;
@@ -38,7 +38,7 @@ pub extern "C" fn relay_golay_decode(
 // Writes the message of a codeword.
 #[no_mangle]
 pub extern "C" fn relay_golay_message(codeword: u32, message: &mut u32, value: &mut usize) -> u32
-    ensures { λ r. ⌜ Told (λ a. MessageRead codeword (record { answer = a; message = now (message .exit) })) r (now (value .exit)) ⌝ }
+    ensures { λ r. ⌜ Told (λ a. MessageRead codeword (record { answer = a; message = now (message .exit) })) (messageAnswer codeword) r (now (value .exit)) ⌝ }
 {
     let b = golay::message::message(codeword);
     *message = b.message;

@@ -1,1 +1,2 @@
 pub mod Matrices
+pub mod Starred

@@ -12,7 +12,7 @@ use Rattle.coding.specs.Matrix.{Codeword}
 use Rattle.coding.specs.Reduced.{reduce, freesFrom}
 use Rattle.coding.specs.Check.{check, column, checks, syndrome}
 use Rattle.coding.proofs.ListLaws.{map-same}
-use Rattle.coding.proofs.CheckRowLaws.{check-rows}
+use Rattle.coding.proofs.CheckRowLaws.{free-places, check-rows}
 use Rattle.coding.proofs.ReduceLaws.{syndrome-codeword}
 use Rattle.coding.proofs.WidthLaws.{column-zeros, syndrome-zeros}
 use Rattle.words.specs.Limits.{maxChecks}
@@ -49,6 +49,7 @@ parity-checks n k rows r a e = record {
   answer = a;
   rows-are = e;
   count = λ d. frees-are n k rows (accepted d);
+  free = λ d. free-places n rows (accepted d .inside);
   check-rows = λ d. check-rows n rows (accepted d .inside);
   codewords = λ d. let q : r .rows ≡ padded maxChecks (checks n rows) = rw d at e in rw q (codeword-syndrome n k rows (accepted d));
 }

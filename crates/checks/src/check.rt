@@ -31,7 +31,7 @@ fn parities(checks: &[u32], w: u32) -> u32
     let mut j: usize = checks.len();
     while 0 < j {
         j -= 1;
-        s = s * 2 + parity(w, checks[j]);
+        s = (s << 1) ^ parity(w, checks[j]);
     }
     s
 }
@@ -77,7 +77,7 @@ fn column(rows: &[u32], q: u32) -> u32
     let mut p: usize = rows.len();
     while 0 < p {
         p -= 1;
-        c = c * 2 + place(rows[p], q);
+        c = (c << 1) ^ place(rows[p], q);
     }
     c
 }

@@ -14,6 +14,7 @@ use Rattle.coding.specs.Matrix.{sel, encode}
 use Rattle.coding.specs.Reduced.{rest, freesFrom}
 use Rattle.coding.specs.Check.{places, column, check, syndrome}
 use Rattle.coding.proofs.WordLaws.{bit-lt, bit-half, bit-zeroth, bit-of-zero, bit-xor, halves-eq, xor-half, xor-digit}
+use Rattle.coding.proofs.MachineLaws.{joined}
 use Rattle.coding.proofs.WeightLaws.{parity-lt, parity-xor, parity-xor-r, parity-zero, parity-pow, parity-step}
 
 -- ---- a place of a sum of rows is a parity of the message
@@ -108,7 +109,7 @@ syndrome-none f (suc r ∷ rs) i w h = syndrome-none f rs (suc i) w h
 -- ---- a loop over the entries, from the last to the first: the digit of the entry before j becomes the lowest
 
 module _ (digit : ℕ → ℕ) (l : List ℕ) (j : ℕ) (h : 0 < j) (k : j ≤ length l) where
-  pub places-back : places digit (drop j l) * 2 + digit (getD l (j - 1) 0) ≡ places digit (drop (j - 1) l)
+  places-back : places digit (drop j l) * 2 + digit (getD l (j - 1) 0) ≡ places digit (drop (j - 1) l)
   places-back = go j h k
     where
       less : (i : ℕ) → suc i - 1 ≡ i
@@ -119,5 +120,10 @@ module _ (digit : ℕ → ℕ) (l : List ℕ) (j : ℕ) (h : 0 < j) (k : j ≤ l
       go (suc i) h k = rw (less i) (sym (ap (places digit) (drop-cons l i 0 k) ∙ omega arith))
 
   -- and fits a machine word that has a place for each entry
-  pub places-fit : ((x : ℕ) → digit x < 2) → (m : ℕ) → length l ≤ m → places digit (drop j l) * 2 + digit (getD l (j - 1) 0) < 2 ^ m
+  places-fit : ((x : ℕ) → digit x < 2) → (m : ℕ) → length l ≤ m → places digit (drop j l) * 2 + digit (getD l (j - 1) 0) < 2 ^ m
   places-fit f m w = rw places-back (lt-of-lt-of-le (places-lt digit f (drop (j - 1) l)) (pow-mono (simp length-drop (omega arith))))
+
+  -- the same in the machine's shift and sum
+  pub places-joined : ((x : ℕ) → digit x < 2) → length l ≤ 32
+      → ((places digit (drop j l) * 2 ^ 1) % 2 ^ 32) ⊕ digit (getD l (j - 1) 0) ≡ places digit (drop (j - 1) l)
+  places-joined f w = joined (places digit (drop j l)) (digit (getD l (j - 1) 0)) (places-fit f 32 w) (f (getD l (j - 1) 0)) ∙ places-back

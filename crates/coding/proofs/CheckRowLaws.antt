@@ -2,9 +2,9 @@
 -- Assumes nothing.
 use mathlib.Core.Path.{_≡_, sym, ap, ap₂, _∙_}
 use mathlib.Core.Logic.{_≢_}
-use mathlib.Core.List.{List, map}
-use Prim.Native.Nat.{ℕ, _+_, _%_, _^_, _<_}
-use native.Mathlib.Nat.{zero-add}
+use mathlib.Core.List.{List, [], _∷_, map}
+use Prim.Native.Nat.{ℕ, zero, suc, _+_, _%_, _^_, _<_}
+use native.Mathlib.Nat.{zero-add, le-of-suc-le-suc}
 use native.Mathlib.Omega.{arith}
 use lib.ListN.{length, getD}
 use lib.Pow.{pow-lt}
@@ -12,12 +12,40 @@ use lib.Bits.{xor-lt}
 use Rattle.coding.specs.Word.{_⊕_, bit}
 use Rattle.coding.specs.Matrix.{Inside}
 use Rattle.coding.specs.Reduced.{reduce, rowsOf, pivotsFrom, freesFrom, reducedRows, pivots}
-use Rattle.coding.specs.Check.{column, check, checks, frees, CheckRow}
+use Rattle.coding.specs.Check.{column, check, checks, frees, FreePlaces, CheckRow}
 use Rattle.coding.proofs.WordLaws.{bit-lt, bit-of-zero, bit-xor, bit-pow, bit-pow-other}
 use Rattle.coding.proofs.ListLaws.{getD-map}
 use Rattle.coding.proofs.CheckLaws.{places-lt, places-bit}
-use Rattle.coding.proofs.CompactLaws.{rows-from, frees-from}
+use Rattle.coding.proofs.CompactLaws.{rows-count, rows-from, frees-from}
 use Rattle.coding.proofs.ReduceLaws.{whole}
+use Rattle.coding.proofs.EchelonLaws.{reducedRows-form}
+
+frees-rise : (p : ℕ) (B : List ℕ) (i j : ℕ) → i < j → j < length (freesFrom p B) → getD (freesFrom p B) i 0 < getD (freesFrom p B) j 0
+frees-rise p [] i j l h = absurd (omega arith)
+frees-rise p (suc r ∷ B) i j l h = frees-rise (suc p) B i j l h
+frees-rise p (zero ∷ B) i zero l h = absurd (omega arith)
+frees-rise p (zero ∷ B) zero (suc j) l h = frees-from (λ q. p < q) (suc p) B (λ q k e. omega arith) j (le-of-suc-le-suc h)
+frees-rise p (zero ∷ B) (suc i) (suc j) l h = frees-rise (suc p) B i j (le-of-suc-le-suc l) (le-of-suc-le-suc h)
+
+-- 01, part 2: the places that are no pivot, in rising order
+pub free-places : (n : ℕ) (rs : List ℕ) → Inside n rs → FreePlaces n (pivots n rs) (frees n rs)
+free-places n rs fits = record {
+  all = ap (λ (x : ℕ). x + length (frees n rs)) count ∙ rows-count 0 B ∙ size;
+  inside = frees-from (λ q. q < n) 0 B (λ q l z. rw (zero-add q) (rw size at l));
+  no-pivot = λ i j hi. frees-from (λ q. getD (pivots n rs) i 0 ≢ q) 0 B
+      (λ q l z. rw (zero-add q) (rows-from (λ r p. p ≢ q) 0 B
+      (λ p k ne. rw (zero-add p) (λ e. ne (ap (λ (x : ℕ). getD B x 0) e ∙ z))) i (rw count at hi))) j;
+  rise = frees-rise 0 B;
+}
+  where
+    B : List ℕ
+    B = reduce n rs
+
+    size : length (reduce n rs) ≡ n
+    size = whole n rs fits .reduced .size
+
+    count : length (pivots n rs) ≡ length (reducedRows n rs)
+    count = reducedRows-form n rs fits .echelon .count
 
 module _ (B : List ℕ) (q : ℕ) (h : q < length B) (free : getD B q 0 ≡ 0) where
   at : (p : ℕ) → p < length B → bit (check B q) p ≡ (bit (2 ^ q) p + bit (getD B p 0) q) % 2

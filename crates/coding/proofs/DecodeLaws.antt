@@ -1,6 +1,7 @@
 -- Laws of decoding: every syndrome of a matrix has a leader, of weight at most n - k, and a word plus the leader of its syndrome is a
 -- nearest codeword. Assumes nothing.
 use mathlib.Core.Path.{_≡_, refl, sym, ap, _∙_}
+use mathlib.Core.Logic.{_↔_}
 use mathlib.Core.List.{List}
 use mathlib.Core.Option.{Option, none, some}
 use Prim.Native.Nat.{ℕ, _^_, _≤_, _<_}
@@ -8,12 +9,14 @@ use native.Mathlib.Nat.{le-trans}
 use native.Mathlib.Omega.{arith}
 use lib.Dec.{T, eqb→eq, eqb-refl}
 use lib.ListN.{length, length-map}
+use lib.Bits.{xor-self, xor-lt}
 use lib.Count.{ones-le}
 use Rattle.coding.specs.Word.{_⊕_, weight, distance}
 use Rattle.coding.specs.Matrix.{Codeword, Inside}
 use Rattle.coding.specs.Reduced.{reduce}
 use Rattle.coding.specs.Check.{check, checks, frees}
 use Rattle.coding.specs.Leader.{syndromeOf, IsLeader, lightestBelow, orNoLeader, having, leaderOf, nearestOf}
+use Rattle.coding.proofs.WordLaws.{xor-eq}
 use Rattle.coding.proofs.MatrixLaws.{encode-lt}
 use Rattle.coding.proofs.CheckLaws.{syndrome-xor, syndrome-lt}
 use Rattle.coding.proofs.ReduceLaws.{whole, syndrome-codeword}
@@ -53,6 +56,14 @@ module _ (n : ℕ) (rs : List ℕ) (fits : Inside n rs) where
       (λ v l e. syndrome-codeword n rs fits v l .0 e) (λ v c. (codeword-lt v c, syndrome-codeword n rs fits v (codeword-lt v c) .1 c))
       w (leaderOf n rs (syndromeOf n rs w)) h (leader-lightest (syndromeOf n rs w) (syndromeOf-lt w))
 
+  -- two words have the same syndrome exactly when they stand in the same row of the standard array
+  pub same-coset : (a b : ℕ) → a < 2 ^ n → b < 2 ^ n → (syndromeOf n rs b ≡ syndromeOf n rs a) ↔ Codeword rs (a ⊕ b)
+  same-coset a b ha hb =
+      let C = syndrome-codeword n rs fits (a ⊕ b) (xor-lt n a b ha hb) in (
+        λ e. C .0 (syndrome-xor (checks n rs) a b ∙ ap (λ (x : ℕ). syndromeOf n rs a ⊕ x) e ∙ xor-self (syndromeOf n rs a)),
+        λ c. sym (xor-eq (syndromeOf n rs a) (syndromeOf n rs b) (sym (syndrome-xor (checks n rs) a b) ∙ C .1 c)),
+      )
+
   -- the leader that the definition finds is the leader
   pub leader-is : (s : ℕ) → s < 2 ^ length (frees n rs) → IsLeader n rs s (leaderOf n rs s)
   leader-is s h =
@@ -60,6 +71,7 @@ module _ (n : ℕ) (rs : List ℕ) (fits : Inside n rs) where
       record {
         below = f .below;
         has = eqb→eq (syndromeOf n rs (leaderOf n rs s)) s (f .passes);
+        coset = λ v l. rw (eqb→eq (syndromeOf n rs (leaderOf n rs s)) s (f .passes)) at (same-coset (leaderOf n rs s) v (f .below) l);
         lightest = λ v l e. f .light v l (rw e (eqb-refl s));
         smallest = λ v l e q. f .first v l (rw e (eqb-refl s)) q;
       }

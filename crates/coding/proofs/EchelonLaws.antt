@@ -4,12 +4,12 @@ use mathlib.Core.Logic.{_≢_}
 use mathlib.Core.List.{List, [], _∷_}
 use Prim.Native.Nat.{ℕ, zero, suc, _+_, _≤_, _<_, suc-le-suc}
 use native.Mathlib.Nat.{suc-ne-zero, le-of-suc-le-suc, zero-add, add-zero, add-suc, suc-add}
-use native.Mathlib.Decide.{decLe}
+use native.Mathlib.Decide.{ℕ-discrete, decLe}
 use native.Mathlib.Omega.{arith}
-use lib.ListN.{length, getD}
+use lib.ListN.{length, getD, List·getD-eq-default}
 use Rattle.coding.specs.Word.{bit}
 use Rattle.coding.specs.Matrix.{encode, Codeword, Inside}
-use Rattle.coding.specs.Reduced.{Leads, Echelon, ReducedForm, rowsOf, pivotsFrom, reduce, reducedRows, pivots}
+use Rattle.coding.specs.Reduced.{Leads, Echelon, ReducedForm, ByPivot, rowsOf, pivotsFrom, reduce, reducedRows, pivots}
 use Rattle.coding.proofs.MatrixLaws.{encode-xor, encode-zero, encode-kept, encode-in, codeword-zero, codeword-xor, row-codeword}
 use Rattle.coding.proofs.PivotLaws.{ByPlace, row-kept}
 use Rattle.coding.proofs.ReduceLaws.{whole, codeword-kept, kept-codeword}
@@ -76,6 +76,29 @@ module _ (n : ℕ) (B : List ℕ) (R : ByPlace n B) where
       subst (Codeword (rowsOf B)) e
       (encode-in (Codeword (rowsOf B)) (codeword-zero (rowsOf B)) (codeword-xor (rowsOf B)) B
       (entries-in (Codeword (rowsOf B)) (codeword-zero (rowsOf B)) B (row-codeword (rowsOf B))) w)
+
+-- a place with an entry is the pivot of a row
+pivot-there : (p : ℕ) (B : List ℕ) (q : ℕ) → q < length B → getD B q 0 ≢ 0
+    → (i : ℕ) × (i < length (rowsOf B)) × (getD (pivotsFrom p B) i 0 ≡ p + q)
+pivot-there p [] q h ne = absurd (omega arith)
+pivot-there p (zero ∷ B) zero h ne = absurd (ne refl)
+pivot-there p (zero ∷ B) (suc q) h ne = let (i, l, e) = pivot-there (suc p) B q (le-of-suc-le-suc h) ne in (i, l, omega (arith, e))
+pivot-there p (suc r ∷ B) zero h ne = (0, omega arith, omega arith)
+pivot-there p (suc r ∷ B) (suc q) h ne =
+    let (i, l, e) = pivot-there (suc p) B q (le-of-suc-le-suc h) ne in (suc i, suc-le-suc l, omega (arith, e))
+
+-- such a list has each row at its pivot, and 0 elsewhere
+pub by-pivot : (B : List ℕ) → ByPivot (length B) (rowsOf B) (pivotsFrom 0 B) B
+by-pivot B = record {
+  size = refl;
+  at-pivots = rows-from (λ r p. getD B p 0 ≡ r) 0 B (λ q l ne. rw (zero-add q) refl);
+  elsewhere = λ p none. go p none (ℕ-discrete (getD B p 0) 0) (decLe (suc p) (length B));
+}
+  where
+    go : (p : ℕ) → ((i : ℕ) → i < length (rowsOf B) → getD (pivotsFrom 0 B) i 0 ≢ p) → Dec (getD B p 0 ≡ 0) → Dec (p < length B) → getD B p 0 ≡ 0
+    go p none (yes e) l = e
+    go p none (no ne) (yes l) = let (i, h, e) = pivot-there 0 B p l ne in absurd (none i h (rw zero-add at e))
+    go p none (no ne) (no l) = List·getD-eq-default B 0 (omega arith)
 
 -- 01, part 1: the reduced rows and the pivots are the reduced row echelon form of the matrix
 pub reducedRows-form : (n : ℕ) (rs : List ℕ) → Inside n rs → ReducedForm rs (reducedRows n rs) (pivots n rs)

@@ -1,12 +1,12 @@
--- Laws of the machine's shifts, masks and products, as the code writes them on words. Assumes nothing.
+-- Laws of the machine's shifts and masks, as the code writes them on words. Assumes nothing.
 use mathlib.Core.Path.{_≡_, refl, sym, ap, _∙_}
 use mathlib.Core.Bool.{Bool, true, false}
-use Prim.Native.Nat.{ℕ, zero, suc, _+_, _*_, _/_, _%_, _^_, _≤_, _<_}
+use Prim.Native.Nat.{ℕ, zero, suc, _+_, _-_, _*_, _/_, _%_, _^_, _≤_, _<_}
 use native.Mathlib.Nat.{div-eq-of-lt, div-lt-iff-lt-mul, lt-of-lt-of-le, one-mul, mul-one, mul-zero, mod-eq-of-lt}
 use native.Mathlib.Omega.{arith}
 use lib.Dec.{eqb, ltb, lit<}
 use lib.Pow.{pow-pos, pow-mono, shl-exact}
-use lib.Bits.{bitAnd, and-mask, and-zero-r}
+use lib.Bits.{bitAnd, bitXor, and-comm, and-mask, and-shifted, xor-shifted}
 use borrow.Author.Tests.{ltb-true, ltb-false, lt-ltb, eq-eqb, ne-eqb}
 use Rattle.coding.specs.Word.{bit, parity}
 use Rattle.coding.specs.Matrix.{sel}
@@ -32,24 +32,19 @@ fits-shift w n = go (ltb w (2 ^ n)) refl
 pub bit-beyond : (m w i : ℕ) → w < 2 ^ m → m ≤ i → bit w i ≡ 0
 bit-beyond m w i h l = ap (λ (x : ℕ). x % 2) (div-eq-of-lt (lt-of-lt-of-le h (pow-mono l)))
 
--- a row times a digit
-pub times-digit : (row m : ℕ) → row * bitAnd m 1 ≡ sel (m % 2) row
-times-digit row m = ap (λ (c : ℕ). row * c) (and-mask m 1) ∙ go (m % 2) (omega arith)
-  where
-    go : (c : ℕ) → c < 2 → row * c ≡ sel c row
-    go zero h = mul-zero row
-    go (suc zero) h = mul-one row
-    go (suc (suc c)) h = absurd (omega arith)
-
 -- a row where a digit is 1, by the mask that the digit makes
-pub masked-digit : (row m : ℕ) → row < 2 ^ 32 → bitAnd row (bitAnd m 1 * 4294967295) ≡ sel (m % 2) row
-masked-digit row m h = ap (λ (c : ℕ). bitAnd row (c * 4294967295)) (and-mask m 1) ∙ go (m % 2) (omega arith)
+pub masked-digit : (row m : ℕ) → row < 2 ^ 32 → bitAnd row (2 ^ 32 - bitAnd m 1) ≡ sel (m % 2) row
+masked-digit row m h = ap (λ (c : ℕ). bitAnd row (2 ^ 32 - c)) (and-mask m 1) ∙ go (m % 2) (omega arith)
   where
-    go : (c : ℕ) → c < 2 → bitAnd row (c * 4294967295) ≡ sel c row
-    go zero l = and-zero-r row
+    go : (c : ℕ) → c < 2 → bitAnd row (2 ^ 32 - c) ≡ sel c row
+    go zero l = and-comm row (1 * 2 ^ 32) ∙ and-shifted 1 32 row h
     go (suc zero) l = and-mask row 32 ∙ mod-eq-of-lt h
     go (suc (suc c)) l = absurd (omega arith)
 
 pub sel-le : (c row : ℕ) → sel c row ≤ row
 sel-le zero row = omega arith
 sel-le (suc c) row = omega arith
+
+-- a digit is joined below the others
+pub joined : (s b : ℕ) → s * 2 + b < 2 ^ 32 → b < 2 → bitXor ((s * 2 ^ 1) % 2 ^ 32) b ≡ s * 2 + b
+joined s b h l = ap (λ (x : ℕ). bitXor x b) (shl-exact {a = s} 31 1 32 (omega arith) (omega arith)) ∙ xor-shifted s 1 b l

@@ -2,7 +2,7 @@
 use mathlib.Core.Path.{_≡_}
 use mathlib.Core.Logic.{_≢_}
 use mathlib.Core.List.{List, [], _∷_, map}
-use Prim.Native.Nat.{ℕ, zero, suc, _+_, _*_, _^_, _<_}
+use Prim.Native.Nat.{ℕ, _+_, _*_, _^_, _<_}
 use lib.ListN.{length, getD}
 use Rattle.coding.specs.Word.{_⊕_, bit, parity}
 use Rattle.coding.specs.Reduced.{reduce, freesFrom}
@@ -19,6 +19,13 @@ column rows q = places (λ r. bit r q) rows
 -- the check row of a place q that is no pivot: a 1 at its own place, and at each pivot the value at q of that pivot's row
 abbrev pub check : List ℕ → ℕ → ℕ
 check B q = 2 ^ q ⊕ column B q
+
+-- the places below n that are no pivot, in rising order
+pub record FreePlaces (n : ℕ) (pivots frees : List ℕ) : Type 0 where
+  pub all : length pivots + length frees ≡ n
+  pub inside : (j : ℕ) → j < length frees → getD frees j 0 < n
+  pub no-pivot : (i j : ℕ) → i < length pivots → j < length frees → getD pivots i 0 ≢ getD frees j 0
+  pub rise : (i j : ℕ) → i < j → j < length frees → getD frees i 0 < getD frees j 0
 
 -- 01's words for it: h is the check row of q, where these are the reduced rows, their pivots and the places that are no pivot
 pub record CheckRow (n : ℕ) (rows pivots frees : List ℕ) (q h : ℕ) : Type 0 where

@@ -1,5 +1,6 @@
 -- 01, part 4: the coset leader of a syndrome, the lightest word having it; of several, the smallest number.
 use mathlib.Core.Path.{_≡_}
+use mathlib.Core.Logic.{_↔_}
 use mathlib.Core.List.{List}
 use mathlib.Core.Option.{Option, none, some}
 use mathlib.Core.Bool.{Bool, true, false}
@@ -7,16 +8,19 @@ use Prim.Native.Nat.{ℕ, zero, suc, _-_, _^_, _≤_, _<_}
 use lib.Dec.{eqb, ltb}
 use Rattle.coding.specs.Lists.{pick}
 use Rattle.coding.specs.Word.{_⊕_, weight}
+use Rattle.coding.specs.Matrix.{Codeword}
 use Rattle.coding.specs.Check.{checks, syndrome}
 
 -- the syndrome by the matrix's own check rows
 abbrev pub syndromeOf : ℕ → List ℕ → ℕ → ℕ
 syndromeOf n rows w = syndrome (checks n rows) w
 
--- l is the leader of the syndrome s
+-- l is the leader of the syndrome s: of the words having s, which are a row of the standard array, the coset of l, the lightest and
+-- of several the smallest
 pub record IsLeader (n : ℕ) (rows : List ℕ) (s l : ℕ) : Type 0 where
   pub below : l < 2 ^ n
   pub has : syndromeOf n rows l ≡ s
+  pub coset : (v : ℕ) → v < 2 ^ n → (syndromeOf n rows v ≡ s) ↔ Codeword rows (l ⊕ v)
   pub lightest : (v : ℕ) → v < 2 ^ n → syndromeOf n rows v ≡ s → weight l ≤ weight v
   pub smallest : (v : ℕ) → v < 2 ^ n → syndromeOf n rows v ≡ s → weight v ≡ weight l → l ≤ v
 

@@ -85,6 +85,12 @@ reducedRows n rows = rowsOf (reduce n rows)
 abbrev pub pivots : ℕ → List ℕ → List ℕ
 pivots n rows = pivotsFrom 0 (reduce n rows)
 
+-- 01's words for that list: of m entries, at pivot i stands row i, and at every place that is no pivot 0
+pub record ByPivot (m : ℕ) (rows pivots table : List ℕ) : Type 0 where
+  pub size : length table ≡ m
+  pub at-pivots : (i : ℕ) → i < length rows → getD table (getD pivots i 0) 0 ≡ getD rows i 0
+  pub elsewhere : (p : ℕ) → ((i : ℕ) → i < length rows → getD pivots i 0 ≢ p) → getD table p 0 ≡ 0
+
 -- beside the reduced rows by place, B, stand messages: M has for each row of B one whose codeword is that row
 pub record Traced (rows M B : List ℕ) : Type 0 where
   pub size : length M ≡ length B

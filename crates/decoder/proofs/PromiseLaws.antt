@@ -14,6 +14,7 @@ use Rattle.words.specs.declared.answer.Answer.the-variants.{Done, Refused}
 use Rattle.linear.proofs.AcceptLaws.{accepted-in}
 use Rattle.words.proofs.ShapeLaws.{refused-done}
 use Rattle.words.proofs.ListLaws.{stays, goes, kept, written}
+use Rattle.weights.proofs.DescribeLaws.{distance-is}
 use Rattle.outcomes.specs.Causes.{batchAnswer}
 use Rattle.leaders.specs.Leaders.{leaderAnswer}
 use Rattle.decoder.specs.Decoded.{wordOf, countOf, Decoded}
@@ -34,6 +35,7 @@ module _ (n k : ℕ) (rows : List ℕ) (reading : Reading) (words out counts wor
         distances = kept r c e _ counts;
         leaders = rw e (simp (batch-early n k rows reading words (length out) (length counts) (length work) c q) refl);
         leader = λ d. refused-done (sym e ∙ d);
+        minimum = λ d. refused-done (sym e ∙ d);
         nearest = λ d. refused-done (sym e ∙ d);
         within = λ d. refused-done (sym e ∙ d);
         clean = λ d. refused-done (sym e ∙ d);
@@ -58,6 +60,7 @@ module _ (n k : ℕ) (rows : List ℕ) (reading : Reading) (words out counts wor
       distances = written (countOf n rows reading) words counts counts′ ec;
       leaders = ew;
       leader = λ _ s h. rw (leader-slot s h) (leader-at n k rows A s h);
+      minimum = λ _. distance-is n k rows A;
       nearest = λ _ e i h. rw (out-slot i h, count-slot i h, e) (nearest-rule n k rows A (getD words i 0) (passed .listed .inside i h));
       within = λ _ ρ e i h. rw (out-slot i h, count-slot i h, e)
           (radius-rule n k rows A (getD words i 0) (passed .listed .inside i h) ρ (radius-in ρ (dmin rows) (rw e at (passed .radius))));

@@ -54,7 +54,7 @@ module _ {n k : ℕ} {rows : List ℕ} {reading : Reading} {words out counts wor
     leaders-done = L .answer ∙ leaders-pass n k rows A (length work) work-fits
 
     check-rows : l .checks ≡ padded maxChecks (checks n rows)
-    check-rows = rw leaders-done at (L .checks-are)
+    check-rows = rw leaders-done at (L .checks leaders-done .rows-are)
 
     work-is : work′ ≡ tabulate (leaderOf n rows) (2 ^ (n - k)) ++ drop (2 ^ (n - k)) work
     work-is = rw leaders-done at (L .list)

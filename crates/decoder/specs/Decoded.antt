@@ -7,7 +7,7 @@ use lib.ListN.{length, getD}
 use Rattle.coding.specs.Word.{distance}
 use Rattle.coding.specs.Matrix.{Codeword}
 use Rattle.coding.specs.Check.{syndrome}
-use Rattle.coding.specs.Weight.{dmin}
+use Rattle.coding.specs.Weight.{dmin, MinimumDistance}
 use Rattle.coding.specs.Leader.{syndromeOf, IsLeader, leaderOf}
 use Rattle.coding.specs.Radius.{NearestRule, RadiusRules}
 use Rattle.words.specs.Refusal.{onDone}
@@ -39,14 +39,15 @@ abbrev pub countOf : ℕ → List ℕ → Reading → ℕ → ℕ
 countOf n rows reading w = countIn (decodedAs n rows reading w)
 
 -- slot i of the codewords and of the counts is the answer to word i, 255 meaning far; later slots, and on a refusal every slot, are
--- as they were; the working list holds the leaders. On success demand 3 holds of every word of the batch, in either reading, and a
--- word is clean exactly when its count is 0
+-- as they were; the working list holds the leaders. On success dmin is the minimum distance, demand 3 holds of every word of the batch,
+-- in either reading, and a word is clean exactly when its count is 0
 pub record Decoded (n k : ℕ) (rows : List ℕ) (reading : Reading) (words out counts work : List ℕ) (r : Answer) (out′ counts′ work′ : List ℕ) : Type 0 where
   pub answer : r ≡ decodeAnswer n k rows reading words (length out) (length counts) (length work)
   pub codewords : out′ ≡ onDone r (map (wordOf n rows reading) words) out
   pub distances : counts′ ≡ onDone r (map (countOf n rows reading) words) counts
   pub leaders : work′ ≡ workAfter r n k rows work
   pub leader : r ≡ Done → (s : ℕ) → s < 2 ^ (n - k) → IsLeader n rows s (getD work′ s 0)
+  pub minimum : r ≡ Done → MinimumDistance n rows (dmin rows)
   pub nearest : r ≡ Done → reading ≡ Nearest → (i : ℕ) → i < length words
       → NearestRule ℕ (Codeword rows) distance (getD words i 0) (getD out′ i 0) (getD counts′ i 0)
   pub within : r ≡ Done → (ρ : ℕ) → reading ≡ Within ρ → (i : ℕ) → i < length words

@@ -14,6 +14,7 @@ use Rattle.coding.specs.Reduced.{reduce, Traced}
 use Rattle.coding.specs.Check.{checks, syndrome}
 use Rattle.coding.proofs.ListLaws.{map-same}
 use Rattle.coding.proofs.SearchLaws.{first-same, first-before, codeword-test, true-false}
+use Rattle.coding.proofs.CheckLaws.{encode-place}
 use Rattle.coding.proofs.TraceLaws.{message-trace, trace-message}
 use Rattle.coding.proofs.WidthLaws.{inside-wide}
 use Rattle.words.specs.Limits.{maxChecks}
@@ -61,7 +62,7 @@ module _ (n k : ℕ) (rows : List ℕ) (A : Accepted n k rows) where
 module _ (n k : ℕ) (rows words before : List ℕ) (r : Answer) (after : List ℕ) where
   pub encoded : r ≡ encodeAnswer n k rows words (length before) → after ≡ onDone r (map (encode rows) words) before
       → Encoded n k rows words before r after
-  encoded a s = record { answer = a; slots = s; back = λ A u h. back-is n k rows A u h }
+  encoded a s = record { answer = a; slots = s; product = encode-place rows; back = λ A u h. back-is n k rows A u h }
 
   pub messages-read : r ≡ messageAnswer n k rows words (length before) → after ≡ onDone r (map (messageOf rows) words) before
       → MessagesRead n k rows words before r after

@@ -3,7 +3,9 @@ use mathlib.Core.Path.{_≡_}
 use mathlib.Core.List.{List, map}
 use Prim.Native.Nat.{ℕ, _^_, _<_}
 use lib.ListN.{length}
+use Rattle.coding.specs.Word.{bit, parity}
 use Rattle.coding.specs.Matrix.{encode, messageOf}
+use Rattle.coding.specs.Check.{column}
 use Rattle.words.specs.Refusal.{andThen, onDone}
 use Rattle.words.specs.Lists.{listAnswer}
 use Rattle.words.specs.declared.answer.Answer.{Answer}
@@ -18,4 +20,5 @@ encodeAnswer n k rows messages slots = andThen (matrixAnswer n k rows) (listAnsw
 pub record Encoded (n k : ℕ) (rows messages before : List ℕ) (r : Answer) (after : List ℕ) : Type 0 where
   pub answer : r ≡ encodeAnswer n k rows messages (length before)
   pub slots : after ≡ onDone r (map (encode rows) messages) before
+  pub product : (u q : ℕ) → bit (encode rows u) q ≡ parity u (column rows q)
   pub back : Accepted n k rows → (u : ℕ) → u < 2 ^ k → messageOf rows (encode rows u) ≡ u

@@ -9,6 +9,7 @@ use Rattle.coding.specs.Weight.{MinimumDistance}
 use Rattle.coding.specs.Radius.{RadiusRules}
 use Rattle.words.specs.Refusal.{unless, ifDone}
 use Rattle.words.specs.declared.answer.Refusal.the-variants.{WordOutside}
+use Rattle.words.specs.declared.answer.Answer.{Answer}
 use Rattle.words.specs.declared.answer.Answer.the-variants.{Done}
 use Rattle.outcomes.specs.Outcome.{wordIn, countIn}
 use Rattle.decoder.specs.Decoded.{decodedAs}
@@ -22,10 +23,14 @@ use Rattle.golay.specs.declared.decode.Correction.{Correction}
 unfoldable pub golayOutcome : ℕ → Outcome
 golayOutcome w = decodedAs 24 golayRows (Within 3) w
 
+-- cause 7: a word with a one outside its 24 places
+abbrev pub decodeAnswer : ℕ → Answer
+decodeAnswer w = unless (ltb w (2 ^ 24)) (WordOutside 0) Done
+
 -- a word of 24 places is answered by the word and the count of its outcome, any other is refused. The radius rules hold of every word,
 -- and a word is clean exactly when its count is 0
 pub record Decoded (w : ℕ) (r : Correction) : Type 0 where
-  pub answer : r .answer ≡ unless (ltb w (2 ^ 24)) (WordOutside 0) Done
+  pub answer : r .answer ≡ decodeAnswer w
   pub word : r .word ≡ ifDone (r .answer) (wordIn (golayOutcome w) w) 0
   pub count : r .count ≡ ifDone (r .answer) (countIn (golayOutcome w)) 0
   pub apart : MinimumDistance 24 golayRows 8

@@ -1,5 +1,5 @@
 // Part 6: the check part P of the generator matrix, and sums of its rows.
-use words::word::masked;
+use words::word::selected;
 ghost use mathlib.Core.Path.{_≡_};
 ghost use Prim.Native.Nat.{_^_, _<_};
 ghost use Rattle.coding.specs.Matrix.{encode};
@@ -31,7 +31,7 @@ pub(crate) fn check_sum(message: u32) -> u32
     let mut m = message;
     let mut i: usize = 0;
     while i < 12 {
-        sum = sum ^ masked(rows[i], m);
+        sum = sum ^ selected(rows[i], m);
         m = m >> 1;
         i += 1;
     }

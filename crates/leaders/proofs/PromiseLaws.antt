@@ -7,8 +7,7 @@ use native.Mathlib.Omega.{arith}
 use lib.Dec.{eqb}
 use lib.ListN.{length, getD, drop, List·getD-append}
 use borrow.Author.Tests.{le-leb, lt-leb}
-use Rattle.coding.specs.Lists.{blank, padded, tabulate}
-use Rattle.coding.specs.Check.{checks}
+use Rattle.coding.specs.Lists.{blank, tabulate}
 use Rattle.coding.specs.Leader.{leaderOf}
 use Rattle.coding.proofs.CountLaws.{length-tabulate, getD-tabulate}
 use Rattle.coding.proofs.MachineLaws.{shl-one}
@@ -20,6 +19,7 @@ use Rattle.words.specs.declared.answer.Answer.the-variants.{Done, Refused}
 use Rattle.words.proofs.ShapeLaws.{refused-done}
 use Rattle.linear.specs.Accepted.{matrixAnswer, Accepted}
 use Rattle.linear.proofs.AcceptLaws.{in-accepted}
+use Rattle.checks.specs.Checks.{ParityChecks}
 use Rattle.leaders.specs.Leaders.{leadersAnswer, LeadersOf}
 use Rattle.leaders.specs.declared.build.Leaders.{Leaders}
 use Rattle.leaders.proofs.BuiltLaws.{leader-at, leader-passes}
@@ -33,7 +33,8 @@ module _ (n k : ℕ) (rows : List ℕ) where
       → eqb (numberOf c) 11 ≡ false → Refused c ≡ leadersAnswer n k rows (length before) → LeadersOf n k rows before r before
   leaders-refused before r c e z h a = record {
     answer = e ∙ a;
-    checks-are = rw e z;
+    checks = λ d. refused-done (sym e ∙ d);
+    no-checks = λ _ _. z;
     list = rw e (simp h refl);
     leader = λ d. refused-done (sym e ∙ d);
   }
@@ -49,11 +50,12 @@ module _ (n k : ℕ) (rows : List ℕ) where
     leaders-pass room h = simp (in-accepted n k rows A, le-leb (2 ^ (n - k)) room h, leader-passes n k rows A)
 
     -- a success writes the leaders
-    pub leaders-written : (before : List ℕ) → 2 ^ (n - k) ≤ length before → (r : Leaders) → r .answer ≡ Done → r .checks ≡ padded maxChecks (checks n rows)
-        → (list : List ℕ) → list ≡ tabulate (leaderOf n rows) (2 ^ (n - k)) → LeadersOf n k rows before r (list ++ drop (2 ^ (n - k)) before)
+    pub leaders-written : (before : List ℕ) → 2 ^ (n - k) ≤ length before → (r : Leaders) → r .answer ≡ Done
+        → ParityChecks n k rows (record { answer = Done; rows = r .checks }) → (list : List ℕ) → list ≡ tabulate (leaderOf n rows) (2 ^ (n - k)) → LeadersOf n k rows before r (list ++ drop (2 ^ (n - k)) before)
     leaders-written before h r d c list e = record {
       answer = d ∙ sym (leaders-pass (length before) h);
-      checks-are = rw d c;
+      checks = λ _. rw d c;
+      no-checks = λ _ e. refused-done (sym e ∙ d);
       list = rw (d, e) refl;
       leader = λ _ s l. rw (slot s l) (leader-at n k rows A s l);
     }

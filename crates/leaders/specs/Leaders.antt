@@ -5,16 +5,17 @@ use mathlib.Core.Bool.{not}
 use Prim.Native.Nat.{ℕ, _-_, _^_, _<_}
 use lib.Dec.{eqb, leb, ltb}
 use lib.ListN.{length, getD, drop}
-use Rattle.coding.specs.Lists.{blank, padded, pick, first, both, tabulate}
+use Rattle.coding.specs.Lists.{blank, pick, first, both, tabulate}
 use Rattle.coding.specs.Word.{weight}
-use Rattle.coding.specs.Check.{checks}
 use Rattle.coding.specs.Leader.{syndromeOf, lightestBelow, orNoLeader, IsLeader, leaderOf}
 use Rattle.words.specs.Limits.{maxChecks}
-use Rattle.words.specs.Refusal.{numberOf, unless, andThen, ifDone}
+use Rattle.words.specs.Refusal.{numberOf, unless, andThen}
+use Rattle.words.specs.declared.answer.Refusal.{Refusal}
 use Rattle.words.specs.declared.answer.Refusal.the-variants.{ShortWork, NoLeader}
 use Rattle.words.specs.declared.answer.Answer.{Answer}
 use Rattle.words.specs.declared.answer.Answer.the-variants.{Done, Refused}
 use Rattle.linear.specs.Accepted.{matrixAnswer}
+use Rattle.checks.specs.Checks.{ParityChecks}
 use Rattle.leaders.specs.declared.build.Leaders.{Leaders}
 
 -- cause 9: a working list shorter than 2 ^ (n - k)
@@ -42,10 +43,11 @@ abbrev pub workAfter : Answer → ℕ → ℕ → List ℕ → List ℕ → List
 workAfter Done n k rows old = tabulate (leaderOf n rows) (2 ^ (n - k)) ++ drop (2 ^ (n - k)) old
 workAfter (Refused c) n k rows old = pick (eqb (numberOf c) 11) (tabulate (entryOf n k rows) (2 ^ (n - k)) ++ drop (2 ^ (n - k)) old) old
 
--- the check rows are answered, 0 past n - k and on a refusal; the list holds at each syndrome its leader, the lightest word of the coset,
+-- on success the parity-check rows are answered, on a refusal 0 at each entry; the list holds at each syndrome its leader, the lightest word of the coset,
 -- of several the smallest; every later slot, and on a refusal but number 11 every slot, is as it was
 pub record LeadersOf (n k : ℕ) (rows before : List ℕ) (r : Leaders) (after : List ℕ) : Type 0 where
   pub answer : r .answer ≡ leadersAnswer n k rows (length before)
-  pub checks-are : r .checks ≡ ifDone (r .answer) (padded maxChecks (checks n rows)) (blank maxChecks)
+  pub checks : r .answer ≡ Done → ParityChecks n k rows (record { answer = r .answer; rows = r .checks })
+  pub no-checks : (c : Refusal) → r .answer ≡ Refused c → r .checks ≡ blank maxChecks
   pub list : after ≡ workAfter (r .answer) n k rows before
   pub leader : r .answer ≡ Done → (s : ℕ) → s < 2 ^ (n - k) → IsLeader n rows s (getD after s 0)

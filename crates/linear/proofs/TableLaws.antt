@@ -8,26 +8,27 @@ use lib.ListN.{length, getD, take, length-map}
 use lib.Seq.{take-at, ext-getD}
 use Rattle.coding.specs.Lists.{blank, padded}
 use Rattle.coding.specs.Matrix.{encode, Codeword, messageOf, IsMessage}
-use Rattle.coding.specs.Reduced.{reduce, rowsOf, freesFrom, ReducedForm, reducedRows, pivots, Traced}
+use Rattle.coding.specs.Reduced.{reduce, rowsOf, freesFrom, ReducedForm, reducedRows, pivots, ByPivot, Traced}
 use Rattle.coding.proofs.ListLaws.{getD-map}
 use Rattle.coding.proofs.ReduceLaws.{whole}
 use Rattle.coding.proofs.EliminateLaws.{check-count}
 use Rattle.coding.proofs.CompactLaws.{rows-count}
-use Rattle.coding.proofs.EchelonLaws.{reducedRows-form}
+use Rattle.coding.proofs.EchelonLaws.{by-pivot, reducedRows-form}
 use Rattle.coding.proofs.UniqueLaws.{reducedForm-unique}
 use Rattle.coding.proofs.WidthLaws.{inside-wide, reduce-wide, rows-zeros}
 use Rattle.coding.proofs.TraceLaws.{Trace, traced-at, trace-message, trace-is, message-back}
 use Rattle.words.specs.Limits.{maxRows}
 use Rattle.words.specs.Refusal.{ifDone}
 use Rattle.words.specs.declared.answer.Refusal.{Refusal}
+use Rattle.words.specs.declared.answer.Answer.{Answer}
 use Rattle.words.specs.declared.answer.Answer.the-variants.{Done, Refused}
 use Rattle.words.proofs.ShapeLaws.{refused-done}
 use Rattle.linear.specs.Accepted.{matrixAnswer, Accepted}
 use Rattle.linear.specs.ReducedRows.{ReducedRows}
-use Rattle.linear.specs.Reduction.{ReductionOf}
+use Rattle.linear.specs.Reduction.{MessagesByPivot, ReductionOf}
 use Rattle.linear.specs.declared.reduce.Reduction.{Reduction}
 use Rattle.linear.specs.declared.reduce.Reduced.{Reduced}
-use Rattle.linear.proofs.AcceptLaws.{accepted-in}
+use Rattle.linear.proofs.AcceptLaws.{accepted-in, in-accepted}
 
 module _ (n k : ℕ) (rows : List ℕ) (A : Accepted n k rows) where
   -- the reduced rows have an entry for each place
@@ -59,6 +60,15 @@ module _ (n k : ℕ) (rows : List ℕ) (A : Accepted n k rows) where
       (λ p h. let l : p < length (reduce 32 rows) = omega (arith, h, t .size) in
       sym (getD-map (messageOf rows) (reduce 32 rows) p l ∙ trace-message rows (A .independent) (getD M p 0) (getD (reduce 32 rows) p 0) (traced-at rows M (reduce 32 rows) t p l)))
 
+  -- the table has each reduced row at its pivot, and 0 elsewhere: in 32 places as in n, the reduced form is the only one
+  pub by-pivot-is : ByPivot 32 (reducedRows n rows) (pivots n rows) (reduce 32 rows)
+  by-pivot-is =
+      let W = inside-wide n 32 narrow rows (A .inside) in
+      let (e, q) = reducedForm-unique rows (reducedRows 32 rows) (reducedRows n rows) (pivots 32 rows) (pivots n rows)
+      (reducedRows-form 32 rows W) (reducedRows-form n rows (A .inside)) in
+      let size : length (reduce 32 rows) ≡ 32 = whole 32 rows W .reduced .size in
+      rw (← e, ← q) (rw size at (by-pivot (reduce 32 rows)))
+
   module _ (table : List ℕ) (is : table ≡ reduce 32 rows) where
     -- the table is the reduced rows in n places, and zeros
     pub wide : table ≡ reduce n rows ++ blank (32 - n)
@@ -80,17 +90,6 @@ module _ (n k : ℕ) (rows : List ℕ) (A : Accepted n k rows) where
 pub table-of : {n k : ℕ} {rows : List ℕ} {r : Reduction} → ReductionOf n k rows r → r .answer ≡ Done → r .table ≡ reduce 32 rows
 table-of R d = rw d at (R .table-is)
 
--- a refusal has 0 in every other part
-pub reduction-refused : (n k : ℕ) (rows : List ℕ) (r : Reduction) (c : Refusal) → r .answer ≡ Refused c
-    → (r .rows ≡ blank maxRows) × (r .table ≡ blank 32) × (r .messages ≡ blank 32) → matrixAnswer n k rows ≡ Refused c → ReductionOf n k rows r
-reduction-refused n k rows r c e (x, y, z) m = record {
-  answer = e ∙ sym m;
-  rows-are = rw e x;
-  table-is = rw e y;
-  messages-are = rw e z;
-  traced = λ d. refused-done (sym e ∙ d);
-}
-
 -- the reduced rows of an accepted matrix are its reduced row echelon form, the only one
 pub reduced-rows : (n k : ℕ) (rows : List ℕ) (r : Reduced) → r .answer ≡ matrixAnswer n k rows
     → r .rows ≡ ifDone (r .answer) (padded maxRows (reducedRows n rows)) (blank maxRows) → ReducedRows n k rows r
@@ -107,3 +106,27 @@ reduced-rows n k rows r a e = record {
 
     form : r .answer ≡ Done → ReducedForm rows (reducedRows n rows) (pivots n rows)
     form d = reducedRows-form n rows (accepted d .inside)
+
+-- on a refusal there is no message
+pub messages-refused : (n : ℕ) (rows : List ℕ) (a : Answer) (M : List ℕ) (c : Refusal) → a ≡ Refused c → M ≡ blank 32 → MessagesByPivot n rows a M
+messages-refused n rows a M c e z = record { are = rw e z; by-pivot = λ d. refused-done (sym e ∙ d); traced = λ d. refused-done (sym e ∙ d) }
+
+-- ---- what the reduction promises, on success and on a refusal
+
+module _ (n k : ℕ) (rows : List ℕ) (r : Reduction) where
+  pub reduction-done : Accepted n k rows → r .answer ≡ Done → r .rows ≡ padded maxRows (reducedRows n rows) → r .table ≡ reduce 32 rows
+      → Traced rows (r .messages) (reduce 32 rows) → ReductionOf n k rows r
+  reduction-done A d e t m = record {
+    reduced = reduced-rows n k rows _ (d ∙ sym (in-accepted n k rows A)) (rw d e);
+    table-is = rw d t;
+    messages = record { are = rw d (beside-are n k rows A (r .messages) m); by-pivot = λ _. by-pivot-is n k rows A; traced = λ _. m };
+  }
+
+  -- a refusal has 0 in every other part
+  pub reduction-refused : (c : Refusal) → r .answer ≡ Refused c → (r .rows ≡ blank maxRows) × (r .table ≡ blank 32) × (r .messages ≡ blank 32)
+      → matrixAnswer n k rows ≡ Refused c → ReductionOf n k rows r
+  reduction-refused c e (x, y, z) m = record {
+    reduced = reduced-rows n k rows _ (e ∙ sym m) (rw e x);
+    table-is = rw e y;
+    messages = messages-refused n rows (r .answer) (r .messages) c e z;
+  }

@@ -4,7 +4,6 @@ use words::answer::Refusal;
 use words::limits::MAX_ROWS;
 use words::limits::WIDTH;
 use words::shape::shape;
-use words::word::masked;
 use words::word::selected;
 ghost use mathlib.Core.Path.{_≡_};
 ghost use Prim.Native.Nat.{_<_, _≤_, _^_};
@@ -31,7 +30,7 @@ fn put(rows: &[u32; WIDTH], entries: &mut [u32; WIDTH], q: usize, x: u32)
 {
     let mut p: usize = 0;
     while p < WIDTH {
-        entries[p] = entries[p] ^ masked(x, rows[p] >> q);
+        entries[p] = entries[p] ^ selected(x, rows[p] >> q);
         p += 1;
     }
     entries[q] = x;

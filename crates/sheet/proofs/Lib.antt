@@ -1,3 +1,4 @@
+pub mod WordsLaws
 pub mod ContentLaws
 pub mod FieldLaws
 pub mod PlacedLaws

@@ -10,6 +10,8 @@ use lib.ListN.{length, getD, set, replicate}
 use lib.Seq.{getD-set-same, getD-set-other, set-out}
 use Rattle.coding.specs.Lists.{pick}
 use Rattle.sheet.specs.Field.{maxTag, byteContent, wordsContent, contentOf, fieldAt}
+use Rattle.sheet.specs.Words.{Placed}
+use Rattle.sheet.specs.SheetRead.{SheetRead}
 use Rattle.sheet.specs.Sheet.{maxSheet, withByte, withWords, sheetIn, sheetFrom, sheetOf}
 use Rattle.sheet.specs.declared.answer.Fault.{Fault}
 use Rattle.sheet.specs.declared.answer.Span.{Span}
@@ -20,6 +22,7 @@ use Rattle.sheet.specs.declared.field.Content.{Content}
 use Rattle.sheet.specs.declared.field.Content.the-variants.{Absent, Byte, Words}
 use Rattle.sheet.specs.declared.field.Field.{Field}
 use Rattle.sheet.specs.declared.field.Field.the-variants.{Got, Bad}
+use Rattle.sheet.proofs.WordsLaws.{length-words, word-of}
 use Rattle.sheet.proofs.FieldLaws.{good}
 
 abbrev Within : List ℕ → Span → Type 0
@@ -79,10 +82,10 @@ with-words Absent end rest h e = no-answer e
 with-words (Byte b) end rest h e = no-answer e
 with-words (Words span) end rest h e = (span, refl, e)
 
-abbrev Placed : List ℕ → Sheet → Type 0
-Placed s h = Within s (h .rows) × Within s (h .words)
+abbrev Both : List ℕ → Sheet → Type 0
+Both s h = Within s (h .rows) × Within s (h .words)
 
-placed-in : (s : List ℕ) (contents : List Content) (end : ℕ) (h : Sheet) → Inside s contents → sheetIn contents end ≡ Read h → Placed s h
+placed-in : (s : List ℕ) (contents : List Content) (end : ℕ) (h : Sheet) → Inside s contents → sheetIn contents end ≡ Read h → Both s h
 placed-in s contents end h I e =
     let (n, e1) = with-byte (getD contents 1 Absent) end _ h e in
     let (k, e2) = with-byte (getD contents 2 Absent) end _ h e1 in
@@ -93,7 +96,7 @@ placed-in s contents end h I e =
     (rw (sym a) (I 3 rows r), rw (sym b) (I 5 words w))
 
 placed-from : (d : ℕ) (s : List ℕ) (at last : ℕ) (contents : List Content) (h : Sheet) → at ≤ length s → Inside s contents
-    → sheetFrom d s at last contents ≡ Read h → Placed s h
+    → sheetFrom d s at last contents ≡ Read h → Both s h
 unfolding sheetFrom
 placed-from zero s at last contents h l I e = placed-in s contents (length s) h I e
 placed-from (suc d) s at last contents h l I e =
@@ -101,7 +104,7 @@ placed-from (suc d) s at last contents h l I e =
   where
     go : (b : Bool) → ltb at (length s) ≡ b → (f : Field) → fieldAt s at last ≡ f
         → ((tag : ℕ) (content : Content) (next : ℕ) → next ≤ length s → Inside s (set contents tag content)
-        → sheetFrom d s next tag (set contents tag content) ≡ Read h → Placed s h) → Placed s h
+        → sheetFrom d s next tag (set contents tag content) ≡ Read h → Both s h) → Both s h
     go false q f g rec = placed-in s contents (length s) h I (rw q at e)
     go true q (Bad c) g rec = no-answer (rw (q, g) at e)
     go true q (Got tag content next) g rec =
@@ -116,10 +119,26 @@ no-contents s (suc m) zero span e = none s span e
 no-contents s (suc m) (suc t) span e = no-contents s m t span e
 
 -- the rows and words of a sheet that was read
-pub placed : (s : List ℕ) (h : Sheet) → sheetOf s ≡ Read h → Placed s h
+both : (s : List ℕ) (h : Sheet) → sheetOf s ≡ Read h → Both s h
 unfolding sheetOf
-placed s h e = go (ltb maxSheet (length s)) refl
+both s h e = go (ltb maxSheet (length s)) refl
   where
-    go : (b : Bool) → ltb maxSheet (length s) ≡ b → Placed s h
+    go : (b : Bool) → ltb maxSheet (length s) ≡ b → Both s h
     go true q = no-answer (rw q at e)
     go false q = placed-from (length s) s 0 0 (replicate (suc maxTag) Absent) h (omega arith) (no-contents s (suc maxTag)) (rw q at e)
+
+-- a span within the bytes holds its words
+placed : (s : List ℕ) (span : Span) → Within s span → Placed s span
+placed s span h = record {
+  inside = h;
+  count = length-words s (span .at) (span .count);
+  each = word-of s (span .at) (span .count);
+}
+
+-- what the reader promises follows from its answer
+pub sheet-read : (s : List ℕ) (r : SheetAnswer) → r ≡ sheetOf s → SheetRead s r
+sheet-read s r a = record {
+  answer = a;
+  rows = λ h e. placed s (h .rows) (both s h (sym a ∙ e) .0);
+  words = λ h e. placed s (h .words) (both s h (sym a ∙ e) .1);
+}

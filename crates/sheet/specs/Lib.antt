@@ -1,3 +1,5 @@
 pub mod Fault
 pub mod Field
+pub mod Words
 pub mod Sheet
+pub mod SheetRead

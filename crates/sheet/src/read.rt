@@ -8,7 +8,8 @@ use crate::field::field_at;
 use outcomes::outcome::Reading;
 ghost use mathlib.Core.Path.{_≡_};
 ghost use lib.ListN.{length};
-ghost use Rattle.sheet.specs.Sheet.{readingOf, sheetIn, sheetOf};
+ghost use Rattle.sheet.specs.Sheet.{readingOf, sheetIn};
+ghost use Rattle.sheet.specs.SheetRead.{SheetRead};
 
 // The longest sheet.
 pub const MAX_SHEET: usize = 4096;
@@ -70,7 +71,7 @@ fn refusal(f: Field) -> SheetAnswer
 
 // Reads a sheet.
 pub fn read(bytes: &[u8]) -> SheetAnswer
-    ensures { λ r. ⌜ r ≡ sheetOf (now (bytes .entry)) ⌝ }
+    ensures { λ r. ⌜ SheetRead (now (bytes .entry)) r ⌝ }
 {
     if MAX_SHEET < bytes.len() {
         return SheetAnswer::Refused(Fault::Layout(MAX_SHEET));

@@ -1,6 +1,6 @@
 pub mod AppendLaws
 pub mod DecimalLaws
-pub mod WordsLaws
+pub mod LoadLaws
 pub mod LineLaws
 pub mod BatchLaws
 pub mod CutLaws

@@ -1,4 +1,4 @@
-pub mod Words
+pub mod Loaded
 pub mod Decimal
 pub mod Output
 pub mod Appended

@@ -16,7 +16,7 @@ use Rattle.outcomes.specs.declared.outcome.Outcome.{Outcome}
 use Rattle.outcomes.specs.declared.outcome.Outcome.the-variants.{Clean, Mended, Far}
 use Rattle.sheet.specs.Fault as fault
 use Rattle.sheet.specs.Sheet.{sheetOf}
-use Rattle.sheet_run.specs.Words.{wordsAt}
+use Rattle.sheet.specs.Words.{wordsIn}
 use Rattle.sheet_run.specs.Decimal.{digit, decimal}
 use Rattle.sheet.specs.declared.answer.SheetAnswer.{SheetAnswer}
 use Rattle.sheet.specs.declared.answer.SheetAnswer.the-variants as reading
@@ -81,7 +81,7 @@ batchOutput n k rows reading words =
 -- the output for a sheet that was read, or the one line of a refusal
 abbrev pub printed : List ℕ → SheetAnswer → List ℕ
 printed s (reading.Read h) =
-    batchOutput (h .n) (h .k) (wordsAt s (h .rows .at) (h .rows .count)) (h .reading) (wordsAt s (h .words .at) (h .words .count))
+    batchOutput (h .n) (h .k) (wordsIn s (h .rows)) (h .reading) (wordsIn s (h .words))
 printed s (reading.Refused f) = refusedLine (fault.numberOf f) (fault.valueOf f)
 
 -- the bytes printed for the bytes of a sheet

@@ -85,7 +85,7 @@ fn put_digits(out: &mut [u8], at: usize, n: u32, w: u32) -> usize
 {
     let mut p: usize = 0;
     while p < n as usize {
-        out[at + p] = ZERO + ((w >> p) % 2) as u8;
+        out[at + p] = ZERO + ((w >> p) & 1) as u8;
         p += 1;
     }
     at + p

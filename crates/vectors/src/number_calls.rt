@@ -1,9 +1,8 @@
-// Operations 1 to 9, on two words or numbers.
+// Operations 1 to 8, on two words or numbers.
 use crate::print::flag;
 use words::shape::in_range;
 use words::word::distance;
 use words::word::fits;
-use words::word::masked;
 use words::word::parity;
 use words::word::place;
 use words::word::selected;
@@ -18,8 +17,7 @@ pub(crate) fn call(operation: u8, a: u32, b: u32) -> u32 {
         4 => parity(a, b),
         5 => place(a, b),
         6 => selected(a, b),
-        7 => masked(a, b),
-        8 => flag(fits(a, b)),
+        7 => flag(fits(a, b)),
         _ => flag(in_range(a, b)),
     }
 }

@@ -47,16 +47,10 @@ pub fn fits(w: u32, n: u32) -> bool
     if n < 32 { (w >> n) == 0 } else { true }
 }
 
-// The row where the lowest place of m is 1, else the zero word. The product is the quickest form for one row at a time.
+// The row where the lowest place of m is 1, else the zero word. That digit makes the mask: 2^32 - 1 has a one at each place of a word,
+// 2^32 at none.
 pub fn selected(row: u32, m: u32) -> u32
     ensures { λ r. ⌜ r ≡ sel (m % 2) row ⌝ }
 {
-    row * (m & 1)
-}
-
-// The same by a mask, the form in which a loop over entries is done several at a time.
-pub fn masked(row: u32, m: u32) -> u32
-    ensures { λ r. ⌜ r ≡ sel (m % 2) row ⌝ }
-{
-    row & ((m & 1) * 4294967295)
+    ((row as u64) & (4294967296 - (m & 1) as u64)) as u32
 }

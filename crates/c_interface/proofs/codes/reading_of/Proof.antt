@@ -7,8 +7,5 @@ use Rattle.c_interface.proofs.codes.reading_of.Tie as tie
 returns : tie.Need-returns
 returns c = rw (c .if1 .taken) refl
 
-returns-2 : tie.Need-returns-2
-returns-2 c = search needs
-
 pub reading-of-spec : {M : Type 1} → statement M
-reading-of-spec = tie.close (tie.spec returns returns-2)
+reading-of-spec = tie.close (tie.spec returns (λ c. search needs))

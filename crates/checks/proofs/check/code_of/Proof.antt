@@ -4,9 +4,8 @@ use Rattle.coding.specs.Lists.{padded}
 use Rattle.words.specs.Limits.{maxChecks}
 use Rattle.linear.specs.Accepted.{Accepted}
 use Rattle.linear.proofs.AcceptLaws.{accepted-in}
-use Rattle.words.proofs.ShapeLaws.{refused-done}
-use Rattle.linear.proofs.TableLaws.{table-size, table-of}
-use Rattle.checks.proofs.ChecksLaws.{checks-few, checks-are}
+use Rattle.linear.proofs.TableLaws.{reduced-rows, messages-refused, table-size, table-of}
+use Rattle.checks.proofs.ChecksLaws.{checks-few, checks-are, parity-checks}
 use borrow.Author.Needs.{needs}
 use native.Mathlib.Omega.{arith}
 use Rattle.checks.proofs.check.code_of.Statement.{statement}
@@ -24,7 +23,14 @@ enum-told-2 c = search needs
 returns : tie.Need-returns
 returns c =
     let e = c .enum-told2 .given .1 in
-    record { answer = c .before .before .reduce .ensures .answer; rows-are = rw e refl; checks-are = rw e refl; messages-are = rw e refl; traced = λ d. refused-done (sym e ∙ d) }
+    let R = c .before .before .reduce .ensures in
+    let a = c .before .before .before .before .args in
+    let m = R .reduced .answer in
+    record {
+      reduced = reduced-rows (a .n) (a .k) (a .rows .now) _ m (rw e refl);
+      checks = parity-checks (a .n) (a .k) (a .rows .now) _ m (rw e refl);
+      messages = messages-refused (a .n) (a .rows .now) _ _ _ e refl;
+    }
 
 slice-aggregate-check-rows : tie.Need-slice-aggregate-check-rows
 slice-aggregate-check-rows c = search needs
@@ -35,7 +41,7 @@ check-rows-requires c κs =
     let R = t .before .before .reduce in
     let a = t .before .before .before .before .args in
     let d = t .enum-told .given .1 in
-    let A : Accepted (a .n) (a .k) (a .rows .now) = accepted-in (a .n) (a .k) (a .rows .now) (sym (R .ensures .answer) ∙ d) in (
+    let A : Accepted (a .n) (a .k) (a .rows .now) = accepted-in (a .n) (a .k) (a .rows .now) (sym (R .ensures .reduced .answer) ∙ d) in (
       table-size (a .n) (a .k) (a .rows .now) A (R .result .table) (table-of (R .ensures) d),
       omega (arith, A .range .places),
       checks-few (a .n) (a .k) (a .rows .now) A (R .result .table) (table-of (R .ensures) d),
@@ -48,13 +54,12 @@ returns-2 c =
     let R = t .before .before .reduce in
     let a = t .before .before .before .before .args in
     let d = t .enum-told .given .1 in
-    let A : Accepted (a .n) (a .k) (a .rows .now) = accepted-in (a .n) (a .k) (a .rows .now) (sym (R .ensures .answer) ∙ d) in
+    let A : Accepted (a .n) (a .k) (a .rows .now) = accepted-in (a .n) (a .k) (a .rows .now) (sym (R .ensures .reduced .answer) ∙ d) in
+    let checks = q .check-rows .ensures ∙ ap (padded maxChecks) (checks-are (a .n) (a .k) (a .rows .now) A (R .result .table) (table-of (R .ensures) d)) in
     record {
-      answer = sym d ∙ R .ensures .answer;
-      rows-are = rw d at (R .ensures .rows-are);
-      checks-are = q .check-rows .ensures ∙ ap (padded maxChecks) (checks-are (a .n) (a .k) (a .rows .now) A (R .result .table) (table-of (R .ensures) d));
-      messages-are = rw d at (R .ensures .messages-are);
-      traced = λ _. R .ensures .traced d;
+      reduced = rw d at (R .ensures .reduced);
+      checks = parity-checks (a .n) (a .k) (a .rows .now) _ (sym d ∙ R .ensures .reduced .answer) checks;
+      messages = rw d at (R .ensures .messages);
     }
 
 pub code-of-spec : {M : Type 1} → statement M

@@ -1,11 +1,11 @@
 -- `checks::check::column`: c holds place q of the rows from p on. Assumes nothing.
-use mathlib.Core.Path.{_≡_, sym, ap}
-use Prim.Native.Nat.{_≤_, _-_}
+use mathlib.Core.Path.{_≡_, sym, ap, ap₂, _∙_}
+use Prim.Native.Nat.{ℕ, _*_, _%_, _^_, _≤_, _-_}
 use lib.ListN.{length, drop}
 use lib.Seq.{drop-length}
 use Rattle.coding.specs.Check.{places}
-use Rattle.coding.proofs.CheckLaws.{places-back, places-fit}
-use Rattle.coding.specs.Word.{bit}
+use Rattle.coding.proofs.CheckLaws.{places-joined}
+use Rattle.coding.specs.Word.{_⊕_, bit}
 use Rattle.coding.proofs.WordLaws.{bit-lt}
 use borrow.Author.Needs.{needs}
 use native.Mathlib.Omega.{arith}
@@ -24,13 +24,6 @@ loop-holds c = (search needs, sym (ap (places (λ r. bit r (c .before .args .q))
 sub-p : tie.Need-sub-p Inv-loop μ-loop
 sub-p c = search needs
 
-mul-c : tie.Need-mul-c Inv-loop μ-loop
-mul-c c =
-    let l = c .before .loop in
-    let s = c .before .before .before in
-    let fit = places-fit (λ r. bit r (s .args .q)) (s .args .rows .now) (l .p) (c .loop-test .taken) (l .inv .0) (λ r. bit-lt r (s .args .q)) 32 (s .pre) in
-    record { fits = omega (arith, fit, l .inv .1) }
-
 mul-place : tie.Need-mul-place Inv-loop μ-loop
 mul-place c = search needs
 
@@ -40,13 +33,6 @@ shared-slice-read-place c = search needs
 place-requires : tie.Need-place-requires Inv-loop μ-loop
 place-requires c κs = search needs
 
-add-c : tie.Need-add-c Inv-loop μ-loop
-add-c c =
-    let l = c .before .before .before .loop in
-    let s = c .before .before .before .before .before in
-    let fit = places-fit (λ r. bit r (s .args .q)) (s .args .rows .now) (l .p) (c .before .before .loop-test .taken) (l .inv .0) (λ r. bit-lt r (s .args .q)) 32 (s .pre) in
-    record { fits = omega (arith, fit, l .inv .1, c .place .ensures) }
-
 loop-less : tie.Need-loop-less Inv-loop μ-loop
 loop-less c = search needs
 
@@ -54,8 +40,9 @@ loop-again : tie.Need-loop-again Inv-loop μ-loop
 loop-again c =
     let l = c .before .before .before .loop in
     let s = c .before .before .before .before .before in
-    let back = places-back (λ r. bit r (s .args .q)) (s .args .rows .now) (l .p) (c .before .before .loop-test .taken) (l .inv .0) in
-    (search needs, omega (arith, back, l .inv .1, c .place .ensures))
+    let rows = s .args .rows .now in
+    let back = places-joined (λ r. bit r (s .args .q)) rows (l .p) (c .before .before .loop-test .taken) (l .inv .0) (λ r. bit-lt r (s .args .q)) (s .pre) in
+    (search needs, ap₂ (λ (x y : ℕ). ((x * 2 ^ 1) % 2 ^ 32) ⊕ y) (l .inv .1) (c .place .ensures) ∙ back)
 
 returns : tie.Need-returns Inv-loop μ-loop
 returns c =
@@ -70,11 +57,9 @@ column-spec =
     μ-loop
     loop-holds
     sub-p
-    mul-c
     mul-place
     shared-slice-read-place
     place-requires
-    add-c
     loop-less
     loop-again
     returns)

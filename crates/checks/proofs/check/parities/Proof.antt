@@ -1,11 +1,11 @@
 -- `checks::check::parities`: s holds the parities by the check rows from j on. Assumes nothing.
-use mathlib.Core.Path.{_≡_, sym, ap}
-use Prim.Native.Nat.{_≤_, _-_}
+use mathlib.Core.Path.{_≡_, sym, ap, ap₂, _∙_}
+use Prim.Native.Nat.{ℕ, _*_, _%_, _^_, _≤_, _-_}
 use lib.ListN.{length, drop}
 use lib.Seq.{drop-length}
 use Rattle.coding.specs.Check.{places}
-use Rattle.coding.proofs.CheckLaws.{places-back, places-fit}
-use Rattle.coding.specs.Word.{parity}
+use Rattle.coding.proofs.CheckLaws.{places-joined}
+use Rattle.coding.specs.Word.{_⊕_, parity}
 use Rattle.coding.proofs.WeightLaws.{parity-lt}
 use borrow.Author.Needs.{needs}
 use native.Mathlib.Omega.{arith}
@@ -24,13 +24,6 @@ loop-holds c = (search needs, sym (ap (places (parity (c .before .args .w))) (dr
 sub-j : tie.Need-sub-j Inv-loop μ-loop
 sub-j c = search needs
 
-mul-s : tie.Need-mul-s Inv-loop μ-loop
-mul-s c =
-    let l = c .before .loop in
-    let s = c .before .before .before in
-    let fit = places-fit (parity (s .args .w)) (s .args .checks .now) (l .j) (c .loop-test .taken) (l .inv .0) (parity-lt (s .args .w)) 32 (s .pre) in
-    record { fits = omega (arith, fit, l .inv .1) }
-
 mul-parity : tie.Need-mul-parity Inv-loop μ-loop
 mul-parity c = search needs
 
@@ -40,13 +33,6 @@ shared-slice-read-parity c = search needs
 parity-requires : tie.Need-parity-requires Inv-loop μ-loop
 parity-requires c κs = search needs
 
-add-s : tie.Need-add-s Inv-loop μ-loop
-add-s c =
-    let l = c .before .before .before .loop in
-    let s = c .before .before .before .before .before in
-    let fit = places-fit (parity (s .args .w)) (s .args .checks .now) (l .j) (c .before .before .loop-test .taken) (l .inv .0) (parity-lt (s .args .w)) 32 (s .pre) in
-    record { fits = omega (arith, fit, l .inv .1, c .parity .ensures) }
-
 loop-less : tie.Need-loop-less Inv-loop μ-loop
 loop-less c = search needs
 
@@ -54,8 +40,9 @@ loop-again : tie.Need-loop-again Inv-loop μ-loop
 loop-again c =
     let l = c .before .before .before .loop in
     let s = c .before .before .before .before .before in
-    let back = places-back (parity (s .args .w)) (s .args .checks .now) (l .j) (c .before .before .loop-test .taken) (l .inv .0) in
-    (search needs, omega (arith, back, l .inv .1, c .parity .ensures))
+    let checks = s .args .checks .now in
+    let back = places-joined (parity (s .args .w)) checks (l .j) (c .before .before .loop-test .taken) (l .inv .0) (parity-lt (s .args .w)) (s .pre) in
+    (search needs, ap₂ (λ (x y : ℕ). ((x * 2 ^ 1) % 2 ^ 32) ⊕ y) (l .inv .1) (c .parity .ensures) ∙ back)
 
 returns : tie.Need-returns Inv-loop μ-loop
 returns c =
@@ -70,11 +57,9 @@ parities-spec =
     μ-loop
     loop-holds
     sub-j
-    mul-s
     mul-parity
     shared-slice-read-parity
     parity-requires
-    add-s
     loop-less
     loop-again
     returns)

@@ -33,7 +33,7 @@ returns c =
     let r = c .before .before .code-of in
     let e = c .enum-told2 .given .1 in
     messages-read (a .n) (a .k) (a .rows .now) (a .words .now) (a .out .now) (r .result .answer) (a .out .now)
-    (r .ensures .answer ∙ stays (matrixAnswer (a .n) (a .k) (a .rows .now)) _ _ (sym (r .ensures .answer) ∙ e)) (kept (r .result .answer) _ e _ _)
+    (r .ensures .reduced .answer ∙ stays (matrixAnswer (a .n) (a .k) (a .rows .now)) _ _ (sym (r .ensures .reduced .answer) ∙ e)) (kept (r .result .answer) _ e _ _)
 
 list-cause-requires : tie.Need-list-cause-requires
 list-cause-requires c κs = search needs
@@ -48,7 +48,7 @@ returns-2 : tie.Need-returns-2
 returns-2 c =
     let t = c .before .before .before in
     let a = t .before .before .before .before .before .before .args in
-    let m = t .before .before .code-of .ensures .answer in
+    let m = t .before .before .code-of .ensures .reduced .answer in
     let r = c .before .before .list-cause in
     let e = c .enum-told4 .given .1 in
     messages-read (a .n) (a .k) (a .rows .now) (a .words .now) (a .out .now) (r .result) (a .out .now)
@@ -66,9 +66,9 @@ returns-3 c =
     let C = t .before .before .code-of in
     let a = t .before .before .before .before .before .before .args in
     let d = t .enum-told .given .1 in
-    let m = sym (C .ensures .answer) ∙ d in
+    let m = sym (C .ensures .reduced .answer) ∙ d in
     let l = sym (g .before .before .list-cause .ensures) ∙ g .enum-told3 .given .1 in
-    let cs : C .result .checks ≡ padded maxChecks (checks (a .n) (a .rows .now)) = rw d at (C .ensures .checks-are) in
+    let cs : C .result .checks ≡ padded maxChecks (checks (a .n) (a .rows .now)) = rw d at (C .ensures .checks .rows-are) in
     let is : f .first-other .result ≡ firstOther (a .rows .now) (a .words .now)
     = other-found (a .n) (a .k) (a .rows .now) (a .words .now) (length (a .out .now)) m l (C .result .checks) (f .first-other .result) cs
     (f .first-other .ensures) in
@@ -98,9 +98,9 @@ returns-4 c =
     let C = t .before .before .code-of in
     let a = t .before .before .before .before .before .before .args in
     let d = t .enum-told .given .1 in
-    let m = sym (C .ensures .answer) ∙ d in
+    let m = sym (C .ensures .reduced .answer) ∙ d in
     let l = sym (g .before .before .list-cause .ensures) ∙ g .enum-told3 .given .1 in
-    let cs : C .result .checks ≡ padded maxChecks (checks (a .n) (a .rows .now)) = rw d at (C .ensures .checks-are) in
+    let cs : C .result .checks ≡ padded maxChecks (checks (a .n) (a .rows .now)) = rw d at (C .ensures .checks .rows-are) in
     let is : f .first-other .result ≡ firstOther (a .rows .now) (a .words .now)
     = other-found (a .n) (a .k) (a .rows .now) (a .words .now) (length (a .out .now)) m l (C .result .checks) (f .first-other .result) cs
     (f .first-other .ensures) in
@@ -111,7 +111,7 @@ returns-4 c =
     (written (messageOf rows) words (a .out .now) _
     (q .row-sums .ensures
     ∙ ap (λ (s : List ℕ). s ++ drop (length words) (a .out .now))
-    (messages-are (a .n) (a .k) rows (accepted-in (a .n) (a .k) rows m) (C .result .messages) (C .ensures .traced d) words (sym is ∙ e .if1 .left))))
+    (messages-are (a .n) (a .k) rows (accepted-in (a .n) (a .k) rows m) (C .result .messages) (C .ensures .messages .traced d) words (sym is ∙ e .if1 .left))))
 
 pub message-spec : {M : Type 1} → statement M
 message-spec =

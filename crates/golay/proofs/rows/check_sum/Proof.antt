@@ -22,14 +22,14 @@ abbrev μ-loop : tie.MeasureT-loop
 loop-holds : tie.Need-loop-holds Inv-loop μ-loop
 loop-holds c = (search needs, xor-zero-l (encode golayChecks (c .args .message)))
 
-mul-masked : tie.Need-mul-masked Inv-loop μ-loop
-mul-masked c = search needs
+mul-selected : tie.Need-mul-selected Inv-loop μ-loop
+mul-selected c = search needs
 
-array-read-masked : tie.Need-array-read-masked Inv-loop μ-loop
-array-read-masked c = search needs
+array-read-selected : tie.Need-array-read-selected Inv-loop μ-loop
+array-read-selected c = search needs
 
-masked-requires : tie.Need-masked-requires Inv-loop μ-loop
-masked-requires c κs = search needs
+selected-requires : tie.Need-selected-requires Inv-loop μ-loop
+selected-requires c κs = search needs
 
 add-i : tie.Need-add-i Inv-loop μ-loop
 add-i c = search needs
@@ -43,7 +43,7 @@ loop-again c =
     let l = c .before .before .loop in
     let less : l .i < 12 = c .before .loop-test .taken in (
       search needs,
-      ap (λ (x : ℕ). l .sum ⊕ x ⊕ encode (drop (l .i + 1) golayChecks) (l .m / 2)) (c .masked .ensures ∙ row (l .i) (l .m))
+      ap (λ (x : ℕ). l .sum ⊕ x ⊕ encode (drop (l .i + 1) golayChecks) (l .m / 2)) (c .selected .ensures ∙ row (l .i) (l .m))
           ∙ encode-step golayChecks (l .i) (l .m) (l .sum) _ (rw golay-size less) (l .inv .1),
     )
   where
@@ -62,9 +62,9 @@ check-sum-spec =
     Inv-loop
     μ-loop
     loop-holds
-    mul-masked
-    array-read-masked
-    masked-requires
+    mul-selected
+    array-read-selected
+    selected-requires
     add-i
     loop-less
     loop-again

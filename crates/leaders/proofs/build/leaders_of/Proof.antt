@@ -125,11 +125,12 @@ returns-4 : tie.Need-returns-4
 returns-4 c =
     let b = c .before .before .before in
     let e = b .before .before .before .before in
-    let a = e .before .before .before .before .before .before .args in
-    let A = accepted (e .before) in
+    let t = e .before in
+    let a = t .before .before .before .before .before .args in
+    let A = accepted t in
     rw (size-is (a .n) (a .k) (a .rows .now) A)
-    (leaders-written (a .n) (a .k) (a .rows .now) A (a .list .now) (room e) _ refl (rows-are (e .before)) _
-    (leaders-are (a .n) (a .k) (a .rows .now) A _ _ (rw (rows-are (e .before)) at (b .build .ensures))))
+    (leaders-written (a .n) (a .k) (a .rows .now) A (a .list .now) (room e) _ refl (rw (t .enum-told .given .1) at (t .before .before .parity-checks .ensures)) _
+    (leaders-are (a .n) (a .k) (a .rows .now) A _ _ (rw (rows-are t) at (b .build .ensures))))
 
 pub leaders-of-spec : {M : Type 1} → statement M
 leaders-of-spec =

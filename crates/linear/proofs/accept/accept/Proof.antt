@@ -11,7 +11,7 @@ reduce-requires c κs = search needs
 returns : tie.Need-returns
 returns c =
     let a = c .before .before .args in
-    let e = c .reduce .ensures .answer in
+    let e = c .reduce .ensures .reduced .answer in
     record {
       answer = e;
       accepted = λ d. accepted-in (a .n) (a .k) (a .rows .now) (sym e ∙ d);

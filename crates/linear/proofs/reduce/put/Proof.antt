@@ -27,20 +27,20 @@ mul-entries c = search needs
 element-copy-out-entries : tie.Need-element-copy-out-entries Inv-loop μ-loop
 element-copy-out-entries c = search needs
 
-mul-masked : tie.Need-mul-masked Inv-loop μ-loop
-mul-masked c = search needs
+mul-selected : tie.Need-mul-selected Inv-loop μ-loop
+mul-selected c = search needs
 
-element-copy-out-masked : tie.Need-element-copy-out-masked Inv-loop μ-loop
-element-copy-out-masked c = search needs
+element-copy-out-selected : tie.Need-element-copy-out-selected Inv-loop μ-loop
+element-copy-out-selected c = search needs
 
-cast-masked : tie.Need-cast-masked Inv-loop μ-loop
-cast-masked c = search needs
+cast-selected : tie.Need-cast-selected Inv-loop μ-loop
+cast-selected c = search needs
 
-shr-masked : tie.Need-shr-masked Inv-loop μ-loop
-shr-masked c = search needs
+shr-selected : tie.Need-shr-selected Inv-loop μ-loop
+shr-selected c = search needs
 
-masked-requires : tie.Need-masked-requires Inv-loop μ-loop
-masked-requires c κs = search needs
+selected-requires : tie.Need-selected-requires Inv-loop μ-loop
+selected-requires c κs = search needs
 
 mul-entries-2 : tie.Need-mul-entries-2 Inv-loop μ-loop
 mul-entries-2 c = search needs
@@ -64,10 +64,10 @@ loop-again c =
     let long : length W ≡ 32 = wipes-length (a .q) (a .rows .now) (a .entries .now) (a .x) same ∙ s .pre .1 in
     let next : getD (l .entries) (l .p) 0 ≡ getD (a .entries .now) (l .p) 0
     = ap (λ (e : List ℕ). getD e (l .p) 0) (l .inv .1) ∙ over-next W (a .entries .now) (l .p) (omega arith) in
-    let v : getD (l .entries) (l .p) 0 ⊕ c .masked .result ≡ getD W (l .p) 0
-    = ap₂ _⊕_ next (c .masked .ensures) ∙ sym (wipes-at (a .q) (a .rows .now) (a .entries .now) (a .x) (l .p) same (omega arith)) in (
+    let v : getD (l .entries) (l .p) 0 ⊕ c .selected .result ≡ getD W (l .p) 0
+    = ap₂ _⊕_ next (c .selected .ensures) ∙ sym (wipes-at (a .q) (a .rows .now) (a .entries .now) (a .x) (l .p) same (omega arith)) in (
       search needs,
-      ap (λ (e : List ℕ). set e (l .p) (getD (l .entries) (l .p) 0 ⊕ c .masked .result)) (l .inv .1)
+      ap (λ (e : List ℕ). set e (l .p) (getD (l .entries) (l .p) 0 ⊕ c .selected .result)) (l .inv .1)
           ∙ over-set W (a .entries .now) (l .p) _ (omega arith) (omega arith) v,
     )
 
@@ -97,11 +97,11 @@ put-spec =
     loop-holds
     mul-entries
     element-copy-out-entries
-    mul-masked
-    element-copy-out-masked
-    cast-masked
-    shr-masked
-    masked-requires
+    mul-selected
+    element-copy-out-selected
+    cast-selected
+    shr-selected
+    selected-requires
     mul-entries-2
     element-write-entries
     add-p

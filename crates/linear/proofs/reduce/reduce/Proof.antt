@@ -1,5 +1,5 @@
 -- `linear::reduce::reduce`: the row at which the elimination ends is the first that is a sum of earlier rows. Assumes nothing.
-use mathlib.Core.Path.{_≡_, sym, ap, _∙_}
+use mathlib.Core.Path.{_≡_, refl, sym, ap, _∙_}
 use Prim.Native.Nat.{ℕ}
 use lib.ListN.{take}
 use lib.Seq.{take-length}
@@ -14,7 +14,7 @@ use Rattle.words.specs.declared.answer.Answer.the-variants.{Done, Refused}
 use Rattle.words.proofs.ShapeLaws.{Shaped, shape-in}
 use Rattle.linear.proofs.AcceptLaws.{shape-refused, ends-dependent, ends-done, accepted-in}
 use Rattle.linear.specs.Accepted.{matrixAnswer}
-use Rattle.linear.proofs.TableLaws.{reduction-refused, rows-are, compact-is, beside-are}
+use Rattle.linear.proofs.TableLaws.{reduction-done, reduction-refused, rows-are, compact-is}
 use borrow.Author.Needs.{needs}
 use native.Mathlib.Omega.{arith}
 use Rattle.linear.proofs.reduce.reduce.Statement.{statement}
@@ -96,13 +96,8 @@ returns-3 c =
     let A = accepted-in (a .n) (a .k) rows (passed f) in
     let r = f .before .eliminate .result in
     let traced : Traced rows (r .messages) (reduce 32 rows) = rw (table-is f) at (f .before .eliminate .ensures .traced) in
-    record {
-      answer = sym (passed f);
-      rows-are = c .compact .ensures ∙ ap (padded maxRows) (compact-is (a .n) (a .k) rows A (r .table) (table-is f));
-      table-is = table-is f;
-      messages-are = beside-are (a .n) (a .k) rows A (r .messages) traced;
-      traced = λ _. traced;
-    }
+    reduction-done (a .n) (a .k) rows _ A refl
+    (c .compact .ensures ∙ ap (padded maxRows) (compact-is (a .n) (a .k) rows A (r .table) (table-is f))) (table-is f) traced
 
 pub reduce-spec : {M : Type 1} → statement M
 reduce-spec =

@@ -1,5 +1,4 @@
 -- `linear::reduce::reduced_rows`: a part of what the reduction gives. Assumes nothing.
-use Rattle.linear.proofs.TableLaws.{reduced-rows}
 use borrow.Author.Needs.{needs}
 use Rattle.linear.proofs.reduce.reduced_rows.Statement.{statement}
 use Rattle.linear.proofs.reduce.reduced_rows.Tie as tie
@@ -8,10 +7,7 @@ reduce-requires : tie.Need-reduce-requires
 reduce-requires c κs = search needs
 
 returns : tie.Need-returns
-returns c =
-    let a = c .before .before .before .args in
-    let R = c .before .reduce .ensures in
-    reduced-rows (a .n) (a .k) (a .rows .now) _ (R .answer) (R .rows-are)
+returns c = c .before .reduce .ensures .reduced
 
 pub reduced-rows-spec : {M : Type 1} → statement M
 reduced-rows-spec = tie.close (tie.spec reduce-requires returns)

@@ -9,6 +9,7 @@ use Rattle.sheet.specs.Field.{maxTag}
 use Rattle.sheet.specs.Sheet.{sheetFrom, sheetOf}
 use Rattle.sheet.specs.declared.field.Content.the-variants.{Absent}
 use Rattle.sheet.proofs.FieldLaws.{Good, good, reads-on, stops-at, at-end}
+use Rattle.sheet.proofs.PlacedLaws.{sheet-read}
 use Rattle.sheet.proofs.read.read.Statement.{statement}
 use Rattle.sheet.proofs.read.read.Tie as tie
 
@@ -34,7 +35,7 @@ was c =
 
 returns : tie.Need-returns Inv-loop μ-loop
 unfolding sheetOf
-returns c = simp (lt-ltb _ _ (c .if1 .taken))
+returns c = sheet-read (c .before .before .args .bytes .now) _ (simp (lt-ltb _ _ (c .if1 .taken)))
 
 loop-holds : tie.Need-loop-holds Inv-loop μ-loop
 loop-holds c = (search needs, search needs, refl, (length (c .before .before .args .bytes .now), search needs, refl))
@@ -58,10 +59,10 @@ returns-2 c =
     let l = r .before .before .loop in
     let s = r .before .before .before .before .before .args .bytes .now in
     let v = c .before .enum-told .given in
-    simp (le-ltb _ _ (r .before .before .before .if1 .left))
+    sheet-read s _ (simp (le-ltb _ _ (r .before .before .before .if1 .left))
     (c .refusal .ensures _ (v .1)
     ∙ sym (l .inv .3 .2 ∙ stops-at (l .inv .3 .0) s (l .at) (l .last) (l .contents) (v .0 .0) (omega arith) (r .before .loop-test .taken)
-    (sym (r .field-at .ensures) ∙ v .1)))
+    (sym (r .field-at .ensures) ∙ v .1))))
 
 cast-contents : tie.Need-cast-contents Inv-loop μ-loop
 cast-contents c = search needs
@@ -100,8 +101,8 @@ unfolding sheetOf
 returns-3 c =
     let l = c .before .before .loop in
     let s = c .before .before .before .before .before .args .bytes .now in
-    simp (le-ltb _ _ (c .before .before .before .if1 .left))
-    (c .sheet-in .ensures ∙ sym (l .inv .3 .2 ∙ at-end (l .inv .3 .0) s (l .at) (l .last) (l .contents) (c .before .loop-test .left)))
+    sheet-read s _ (simp (le-ltb _ _ (c .before .before .before .if1 .left))
+    (c .sheet-in .ensures ∙ sym (l .inv .3 .2 ∙ at-end (l .inv .3 .0) s (l .at) (l .last) (l .contents) (c .before .loop-test .left))))
 
 pub read-spec : {M : Type 1} → statement M
 read-spec =

@@ -6,8 +6,8 @@ use native.Mathlib.Omega.{arith}
 use borrow.Author.Needs.{needs}
 use lib.ListN.{length, drop, set, length-set}
 use Rattle.coding.proofs.ListLaws.{over, over-set}
-use Rattle.sheet_run.specs.Words.{wordsAt}
-use Rattle.sheet_run.proofs.WordsLaws.{words-cut, length-words, word-of}
+use Rattle.sheet.specs.Words.{wordsAt}
+use Rattle.sheet.proofs.WordsLaws.{words-cut, length-words, word-of}
 use Rattle.sheet_run.proofs.load.load.Statement.{statement}
 use Rattle.sheet_run.proofs.load.load.Tie as tie
 

@@ -2,7 +2,7 @@
 use mathlib.Core.Path.{refl}
 use Prim.Native.Nat.{_+_}
 use native.Mathlib.Omega.{arith}
-use Rattle.sheet_run.specs.Words.{wordAt}
+use Rattle.sheet.specs.Words.{wordAt}
 use borrow.Author.Needs.{needs}
 use Rattle.sheet_run.proofs.load.word_at.Statement.{statement}
 use Rattle.sheet_run.proofs.load.word_at.Tie as tie

@@ -1,15 +1,16 @@
 -- `sheet_run::print::put_digits`: the first p digits are put. Assumes nothing.
 use mathlib.Core.Path.{_≡_, ap}
-use Prim.Native.Nat.{ℕ, _+_, _-_, _≤_}
+use Prim.Native.Nat.{ℕ, _+_, _-_, _/_, _^_, _≤_}
 use native.Mathlib.Nat.{add-zero}
 use native.Mathlib.Omega.{arith}
 use borrow.Author.Needs.{needs}
+use lib.Bits.{and-mask, mask-lt}
 use Rattle.sheet_run.specs.Appended.{Appends}
 use Rattle.sheet_run.specs.Output.{digitsOf}
 use Rattle.sheet_run.specs.Decimal.{digit}
 use Rattle.coding.specs.Word.{bit}
 use Rattle.sheet_run.proofs.AppendLaws.{appends-length, appends-as, appends-none, appends-more}
-use Rattle.sheet_run.proofs.WordsLaws.{tabulate-more}
+use Rattle.coding.proofs.CountLaws.{tabulate-more}
 use Rattle.sheet_run.proofs.print.put_digits.Statement.{statement}
 use Rattle.sheet_run.proofs.print.put_digits.Tie as tie
 
@@ -32,10 +33,10 @@ shr-out : tie.Need-shr-out Inv-loop μ-loop
 shr-out c = omega (arith, c .before .before .pre .0)
 
 cast-out-2 : tie.Need-cast-out-2 Inv-loop μ-loop
-cast-out-2 c = omega arith
+cast-out-2 c = omega (arith, mask-lt (c .before .before .args .w / 2 ^ c .before .loop .p) 1)
 
 add-out : tie.Need-add-out Inv-loop μ-loop
-add-out c = omega arith
+add-out c = omega (arith, mask-lt (c .before .before .args .w / 2 ^ c .before .loop .p) 1)
 
 add-out-2 : tie.Need-add-out-2 Inv-loop μ-loop
 add-out-2 c = omega (arith, c .before .loop .inv .1 .fits, c .before .before .pre .1)
@@ -55,8 +56,9 @@ loop-again c =
     let l = c .before .loop in
     let a = c .before .before .args in (
       omega arith,
-      rw (tabulate-more (λ i. digit (bit (a .w) i)) (l .p))
-          at (appends-more (l .p) (digit (bit (a .w) (l .p))) (l .inv .1) (omega (arith, c .before .before .pre .1, appends-length (l .inv .1)))),
+      rw (and-mask (a .w / 2 ^ l .p) 1)
+          (rw (tabulate-more (λ i. digit (bit (a .w) i)) (l .p))
+          at (appends-more (l .p) (digit (bit (a .w) (l .p))) (l .inv .1) (omega (arith, c .before .before .pre .1, appends-length (l .inv .1))))),
     )
 
 add-result : tie.Need-add-result Inv-loop μ-loop

@@ -1,6 +1,5 @@
 -- `sheet_run::run::run`: the sheet that was read, or its refusal. Assumes nothing.
 use mathlib.Core.Path.{sym, ap₂, _∙_}
-use Rattle.sheet.proofs.PlacedLaws.{placed}
 use Rattle.sheet_run.specs.Output.{refusedLine}
 use Rattle.sheet_run.proofs.AppendLaws.{appends-as}
 use Rattle.sheet_run.proofs.RunLaws.{ran, ran-not}
@@ -19,8 +18,9 @@ enum-known-a c = search needs
 
 run-sheet-requires : tie.Need-run-sheet-requires
 run-sheet-requires c κs =
-    let P = placed (c .before .before .before .before .before .before .before .before .args .sheet .now) (c .before .before .a .given .0 .0) (sym (c .before .before .before .before .read .ensures) ∙ c .before .before .a .given .1) in
-    (c .before .before .before .before .before .if1 .left, P .0, P .1)
+    let R = c .before .before .before .before .read .ensures in
+    let (h, e) = c .before .before .a .given in
+    (c .before .before .before .before .before .if1 .left, R .rows (h .0) e .inside, R .words (h .0) e .inside)
 
 enum-known-a-2 : tie.Need-enum-known-a-2
 enum-known-a-2 c = search needs
@@ -40,7 +40,7 @@ same-length c = search needs
 returns-2 : tie.Need-returns-2
 returns-2 c =
     let s = c .before .before .before .before .before .before .before .before .before .before .before in
-    ran (s .args .sheet .now) (s .args .out .now) (c .before .before .before .before .before .before .before .before .if1 .left) (sym (c .before .before .before .before .before .a .given .1) ∙ c .before .before .before .before .before .before .before .read .ensures) (c .before .before .run-sheet .ensures)
+    ran (s .args .sheet .now) (s .args .out .now) (c .before .before .before .before .before .before .before .before .if1 .left) (sym (c .before .before .before .before .before .a .given .1) ∙ c .before .before .before .before .before .before .before .read .ensures .answer) (c .before .before .run-sheet .ensures)
 
 same-length-2 : tie.Need-same-length-2
 same-length-2 c = search needs
@@ -50,7 +50,7 @@ returns-3 c =
     let p = c .before .before in
     let m = p .before .before .before .before .before in
     let s = m .before .before .before .before .before .before in
-    ran (s .args .sheet .now) (s .args .out .now) (m .before .before .before .if1 .left) (sym (m .a2 .given .1) ∙ m .before .before .read .ensures)
+    ran (s .args .sheet .now) (s .args .out .now) (m .before .before .before .if1 .left) (sym (m .a2 .given .1) ∙ m .before .before .read .ensures .answer)
     (appends-as (p .put-refusal .ensures) _ (ap₂ refusedLine (p .before .before .number .ensures) (p .before .value .ensures)))
 
 pub run-spec : {M : Type 1} → statement M

@@ -3,10 +3,10 @@ use mathlib.Core.Path.{ap₂, _∙_}
 use mathlib.Core.List.{List}
 use Prim.Native.Nat.{ℕ, zero}
 use lib.ListN.{length-replicate}
-use Rattle.sheet_run.specs.Words.{wordsAt}
+use Rattle.sheet.specs.Words.{wordsIn}
 use Rattle.sheet_run.specs.Output.{batchOutput}
 use Rattle.sheet_run.proofs.AppendLaws.{appends-as}
-use Rattle.sheet_run.proofs.WordsLaws.{loaded-length, loaded-cut}
+use Rattle.sheet_run.proofs.LoadLaws.{loaded-length, loaded-cut}
 use Rattle.sheet_run.proofs.CutLaws.{cut-output}
 use borrow.Author.Needs.{needs}
 use Rattle.sheet_run.proofs.run.run_sheet.Statement.{statement}
@@ -51,7 +51,7 @@ returns c =
     appends-as (c .before .before .run-batch .ensures) _
     (ap₂ (λ (x y : List ℕ). batchOutput (s .n) (s .k) x (s .reading) y)
     (loaded-cut rows 33 (length-replicate 33 zero)) (loaded-cut words 513 (length-replicate 513 zero))
-    ∙ cut-output (s .n) (s .k) (s .reading) (wordsAt (a .bytes .now) (s .rows .at) (s .rows .count)) (wordsAt (a .bytes .now) (s .words .at) (s .words .count)))
+    ∙ cut-output (s .n) (s .k) (s .reading) (wordsIn (a .bytes .now) (s .rows)) (wordsIn (a .bytes .now) (s .words)))
 
 pub run-sheet-spec : {M : Type 1} → statement M
 run-sheet-spec =

@@ -26,7 +26,7 @@ returns c =
     let t = c .before in
     let a = t .before .before .before .before .args in
     let e = t .enum-told2 .given .1 in
-    let m = sym (t .before .before .code-of .ensures .answer) ∙ e in
+    let m = sym (t .before .before .code-of .ensures .reduced .answer) ∙ e in
     let z = c .refused .ensures in
     let q = z .0 ∙ e in
     record {
@@ -38,7 +38,7 @@ returns c =
 walk-all-requires : tie.Need-walk-all-requires
 walk-all-requires c κs =
     let a = c .before .before .before .before .args in
-    let A = accepted-in (a .n) (a .k) (a .rows .now) (sym (c .before .before .code-of .ensures .answer) ∙ c .enum-told .given .1) in
+    let A = accepted-in (a .n) (a .k) (a .rows .now) (sym (c .before .before .code-of .ensures .reduced .answer) ∙ c .enum-told .given .1) in
     omega (arith, A .range .rows, A .count)
 
 returns-2 : tie.Need-returns-2
@@ -48,10 +48,10 @@ returns-2 c =
     let a = t .before .before .before .before .args in
     let C = t .before .before .code-of .ensures in
     let d = t .enum-told .given .1 in
-    let m = sym (C .answer) ∙ d in
+    let m = sym (C .reduced .answer) ∙ d in
     record {
-      reduced = reduced-rows (a .n) (a .k) (a .rows .now) _ (sym m) (rw d at (C .rows-are));
-      checks = parity-checks (a .n) (a .k) (a .rows .now) _ (sym m) (rw d at (C .checks-are));
+      reduced = rw d at (C .reduced);
+      checks = rw d at (C .checks);
       weights = walked-weights (a .n) (a .k) (a .rows .now) (accepted-in (a .n) (a .k) (a .rows .now) m) (w .walk-all .result) (w .walk-all .ensures);
     }
 

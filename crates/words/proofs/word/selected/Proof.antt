@@ -1,16 +1,25 @@
--- `words::word::selected`: a row times a digit is the row or zero. Assumes nothing.
+-- `words::word::selected`: the digit makes a mask of ones or of zeros. Assumes nothing.
 use Prim.Native.Nat.{_%_}
 use native.Mathlib.Nat.{lt-of-le-of-lt}
-use Rattle.coding.proofs.MachineLaws.{times-digit, sel-le}
+use native.Mathlib.Omega.{arith}
+use lib.Bits.{and-mask}
+use Rattle.coding.proofs.MachineLaws.{masked-digit, sel-le}
 use Rattle.words.proofs.word.selected.Statement.{statement}
 use Rattle.words.proofs.word.selected.Tie as tie
 
-mul-result : tie.Need-mul-result
-mul-result c =
-    record { fits = rw (times-digit (c .args .row) (c .args .m)) (lt-of-le-of-lt (sel-le (c .args .m % 2) (c .args .row)) (c .fits .row .fits)) }
+cast-result : tie.Need-cast-result
+cast-result c = record { fits = omega (arith, and-mask (c .args .m) 1) }
+
+sub-result : tie.Need-sub-result
+sub-result c = omega (arith, and-mask (c .args .m) 1)
+
+cast-result-2 : tie.Need-cast-result-2
+cast-result-2 c =
+    let a = c .args in
+    record { fits = rw (masked-digit (a .row) (a .m) (c .fits .row .fits)) (lt-of-le-of-lt (sel-le (a .m % 2) (a .row)) (c .fits .row .fits)) }
 
 returns : tie.Need-returns
-returns c = times-digit (c .args .row) (c .args .m)
+returns c = masked-digit (c .args .row) (c .args .m) (c .fits .row .fits)
 
 pub selected-spec : {M : Type 1} → statement M
-selected-spec = tie.close (tie.spec mul-result returns)
+selected-spec = tie.close (tie.spec cast-result sub-result cast-result-2 returns)
