@@ -141,9 +141,13 @@ def layout():
     case('content past the end and wrong length', b'\1\0\2\6')
     case('content past the end of a missing tag', b'\3\0\4\0\0\0')
 
+# a sheet with all its fields has 14 or 18 bytes and four more for each row and word: never 4,096, and at most 4,094
+LONGEST = sheet(2, 1, [3], [1] * 1019)
+
 def large():
-    case('4096 bytes', sheet(6, 3, ROWS, [1] * 1017)[:4086])
-    case('4094 bytes', sheet(2, 1, [3], [1] * 1019))
+    case('4086 bytes, cut', sheet(6, 3, ROWS, [1] * 1017)[:4086])
+    case('4094 bytes', LONGEST)
+    case('4096 bytes, two of them past the last field', LONGEST + b'\5\0')
     case('1020 rows', sheet(6, 3, [1] * 1020, []))
     case('4096 bytes, cut', sheet(6, 3, ROWS, [1] * 1100)[:4096])
     case('4096 bytes of 0', bytes(4096))
@@ -220,10 +224,13 @@ def mixed():
 for group in (worked, cut, changed, layout, ranges, causes, mixed, large):
     group()
 
-if sys.argv[1:] == ['stdin']:
+def main():
     for title, s in SHEETS:
         t = title.encode()
-        sys.stdout.buffer.write(bytes([len(t)]) + t + len(s).to_bytes(2, 'big') + s)
-else:
-    for title, s in SHEETS:
-        sys.stdout.write(title + '\n' + output(s))
+        if sys.argv[1:] == ['stdin']:
+            sys.stdout.buffer.write(bytes([len(t)]) + t + len(s).to_bytes(2, 'big') + s)
+        else:
+            sys.stdout.write(title + '\n' + output(s))
+
+if __name__ == '__main__':
+    main()
