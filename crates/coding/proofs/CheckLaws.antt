@@ -13,7 +13,7 @@ use Rattle.coding.specs.Word.{_⊕_, bit, parity}
 use Rattle.coding.specs.Matrix.{sel, encode}
 use Rattle.coding.specs.Reduced.{rest, freesFrom}
 use Rattle.coding.specs.Check.{places, column, check, syndrome}
-use Rattle.coding.proofs.WordLaws.{bit-lt, bit-half, bit-zeroth, bit-of-zero, bit-xor, halves-eq, xor-half, xor-digit}
+use Rattle.coding.proofs.WordLaws.{bit-lt, bit-half, bit-of-zero, bit-xor, halves-eq, xor-half, xor-digit}
 use Rattle.coding.proofs.MachineLaws.{joined}
 use Rattle.coding.proofs.WeightLaws.{parity-lt, parity-xor, parity-xor-r, parity-zero, parity-pow, parity-step}
 

@@ -1,15 +1,15 @@
 -- The check rows of a matrix are those of 01, part 2: a 1 at the own place, the reduced rows' values at the pivots, and nothing else.
 -- Assumes nothing.
-use mathlib.Core.Path.{_≡_, sym, ap, ap₂, _∙_}
+use mathlib.Core.Path.{_≡_, ap, _∙_}
 use mathlib.Core.Logic.{_≢_}
-use mathlib.Core.List.{List, [], _∷_, map}
+use mathlib.Core.List.{List, [], _∷_}
 use Prim.Native.Nat.{ℕ, zero, suc, _+_, _%_, _^_, _<_}
 use native.Mathlib.Nat.{zero-add, le-of-suc-le-suc}
 use native.Mathlib.Omega.{arith}
 use lib.ListN.{length, getD}
 use lib.Pow.{pow-lt}
 use lib.Bits.{xor-lt}
-use Rattle.coding.specs.Word.{_⊕_, bit}
+use Rattle.coding.specs.Word.{bit}
 use Rattle.coding.specs.Matrix.{Inside}
 use Rattle.coding.specs.Reduced.{reduce, rowsOf, pivotsFrom, freesFrom, reducedRows, pivots}
 use Rattle.coding.specs.Check.{column, check, checks, frees, FreePlaces, CheckRow}

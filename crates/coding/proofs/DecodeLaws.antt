@@ -1,12 +1,11 @@
 -- Laws of decoding: every syndrome of a matrix has a leader, of weight at most n - k, and a word plus the leader of its syndrome is a
 -- nearest codeword. Assumes nothing.
-use mathlib.Core.Path.{_≡_, refl, sym, ap, _∙_}
+use mathlib.Core.Path.{_≡_, sym, ap, _∙_}
 use mathlib.Core.Logic.{_↔_}
 use mathlib.Core.List.{List}
 use mathlib.Core.Option.{Option, none, some}
 use Prim.Native.Nat.{ℕ, _^_, _≤_, _<_}
 use native.Mathlib.Nat.{le-trans}
-use native.Mathlib.Omega.{arith}
 use lib.Dec.{T, eqb→eq, eqb-refl}
 use lib.ListN.{length, length-map}
 use lib.Bits.{xor-self, xor-lt}

@@ -1,23 +1,21 @@
 -- Laws of dependent rows: where no row is a sum of earlier ones the rows are independent, and the other way round; the
 -- elimination's test, that nothing is left of a row, is exactly that the row is a sum of earlier ones. Assumes nothing.
-use mathlib.Core.Path.{_≡_, refl, sym, ap, _∙_}
-use mathlib.Core.Logic.{_⊎_, inl, inr, ⊎-elim, _↔_}
+use mathlib.Core.Path.{_≡_, sym, ap, _∙_}
+use mathlib.Core.Logic.{_⊎_, inl, inr, ⊎-elim}
 use mathlib.Core.List.{List}
-use mathlib.Core.Bool.{true, false}
 use Prim.Native.Nat.{ℕ, zero, suc, _-_, _^_, _≤_, _<_, min}
 use native.Mathlib.Nat.{le-refl, pow-suc, one-mul}
 use native.Mathlib.Decide.{decLe}
 use native.Mathlib.Omega.{arith}
 use lib.ListN.{length, getD, take, length-take}
 use lib.Seq.{length-take-le, getD-take, take-take}
-use lib.Pow.{pow-pos, pow-lt, pow-mono}
+use lib.Pow.{pow-lt}
 use lib.Bits.{xor-lt, xor-self, xor-shifted}
-use Rattle.coding.specs.Lists.{first}
 use Rattle.coding.specs.Word.{_⊕_}
-use Rattle.coding.specs.Matrix.{encode, Codeword, Inside, Independent, Depends, isCodeword, firstDependent}
+use Rattle.coding.specs.Matrix.{encode, Inside, Independent, Depends, isCodeword, firstDependent}
 use Rattle.coding.specs.Reduced.{rest, reduce}
-use Rattle.coding.proofs.WordLaws.{xor-eq, xor-cancel}
-use Rattle.coding.proofs.MatrixLaws.{encode-xor, encode-zero, encode-take, row-message}
+use Rattle.coding.proofs.WordLaws.{xor-eq}
+use Rattle.coding.proofs.MatrixLaws.{encode-xor, encode-take, row-message}
 use Rattle.coding.proofs.ReduceLaws.{codeword-kept, kept-codeword}
 use Rattle.coding.proofs.SearchLaws.{true-false, first-le, first-hit, first-before, first-is, codeword-test, codeword-fails}
 

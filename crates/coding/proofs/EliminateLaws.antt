@@ -1,6 +1,6 @@
 -- Laws of the elimination row by row: its table after i rows is the reduced form of the first i, it ends at the first row that is a
 -- sum of earlier ones, and there are as many pivots as independent rows. Assumes nothing.
-use mathlib.Core.Path.{_≡_, refl, sym, ap, ap₂, _∙_}
+use mathlib.Core.Path.{_≡_, refl, sym, ap, _∙_}
 use mathlib.Core.Logic.{_≢_, _↔_}
 use mathlib.Core.List.{List, [], _∷_, _++_}
 use Prim.Native.Nat.{ℕ, zero, suc, _+_, _^_, _≤_, _<_}

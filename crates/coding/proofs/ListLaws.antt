@@ -6,7 +6,7 @@ use Prim.Native.Nat.{ℕ, zero, suc, _+_, _-_, _≤_, _<_, suc-le-suc}
 use native.Mathlib.Nat.{le-of-suc-le-suc, zero-add, sub-zero, le-refl}
 use native.Mathlib.Numerals.{add-one}
 use native.Mathlib.Omega.{arith}
-use lib.ListN.{length, getD, take, drop, set, replicate, length-append, length-map, length-set, length-drop, length-replicate, take-append-drop, List·getD-eq-default}
+use lib.ListN.{length, getD, take, drop, set, length-append, length-set, length-drop, length-replicate, take-append-drop, List·getD-eq-default}
 use lib.Seq.{length-take-le, take-length, take-nil, drop-nil, take-suc-set, drop-set-lt, drop-cons}
 use Rattle.coding.specs.Lists.{blank, padded}
 

@@ -2,7 +2,7 @@
 -- Assumes nothing.
 use mathlib.Core.Path.{_≡_, refl, sym, ap, ap₂, _∙_}
 use mathlib.Core.Logic.{_≢_}
-use mathlib.Core.List.{List, [], _∷_, _++_, map}
+use mathlib.Core.List.{List, [], _∷_, _++_}
 use Prim.Native.Nat.{ℕ, zero, suc, _+_, _*_, _/_, _%_, _^_, _<_, _≤_, suc-le-suc}
 use native.Mathlib.Nat.{suc-ne-zero, suc-inj}
 use native.Mathlib.Numerals.{add-one}
@@ -11,10 +11,9 @@ use lib.ListN.{length, getD, take, drop, drop-of-length-le}
 use lib.Seq.{drop-cons}
 use lib.Pow.{pow-pos, pow-lt}
 use lib.Bits.{xor-lt, xor-zero-r, xor-self, block-half, block-odd}
-use Rattle.coding.specs.Lists.{blank}
 use Rattle.coding.specs.Word.{_⊕_, bit}
-use Rattle.coding.specs.Matrix.{sel, encode, Codeword, Inside, Independent}
-use Rattle.coding.proofs.WordLaws.{bit-half, bit-zeroth, bit-pow, bit-pow-other, half-lt, xor-assoc, xor-half, xor-digit, xor-four, xor-eq}
+use Rattle.coding.specs.Matrix.{sel, encode, Codeword, Inside}
+use Rattle.coding.proofs.WordLaws.{bit-half, bit-zeroth, bit-pow, bit-pow-other, half-lt, xor-assoc, xor-half, xor-digit, xor-four}
 
 sel-add : (c d r : ℕ) → c < 2 → d < 2 → sel ((c + d) % 2) r ≡ sel c r ⊕ sel d r
 sel-add zero zero r hc hd = refl

@@ -1,11 +1,10 @@
 -- Laws of reduced rows by place: what is left of a word has a 0 at each pivot, each sum of rows is kept, and a word is a sum of
 -- the rows exactly when its syndrome is 0. Assumes nothing.
-use mathlib.Core.Path.{_≡_, refl, sym, ap, ap₂, _∙_}
+use mathlib.Core.Path.{_≡_, refl, sym, ap, _∙_}
 use mathlib.Core.Logic.{_≢_}
-use mathlib.Core.List.{List, [], _∷_}
+use mathlib.Core.List.{List}
 use Prim.Native.Nat.{ℕ, zero, suc, _+_, _^_, _%_, _<_, _≤_, min}
 use native.Mathlib.Nat.{zero-add}
-use native.Mathlib.Numerals.{add-one}
 use native.Mathlib.Decide.{ℕ-discrete}
 use native.Mathlib.Omega.{arith}
 use lib.ListN.{length, getD}
@@ -13,7 +12,7 @@ use lib.Pow.{pow-pos}
 use lib.Bits.{xor-lt, xor-self, xor-zero-r}
 use Rattle.coding.specs.Word.{_⊕_, bit, parity}
 use Rattle.coding.specs.Matrix.{sel, encode, Inside}
-use Rattle.coding.specs.Reduced.{rest, wipe}
+use Rattle.coding.specs.Reduced.{rest}
 use Rattle.coding.specs.Check.{check, checksOf, syndrome}
 use Rattle.coding.proofs.WordLaws.{bit-lt, bit-of-zero, bit-xor, ext, xor-eq, xor-four}
 use Rattle.coding.proofs.WeightLaws.{parity-zero}

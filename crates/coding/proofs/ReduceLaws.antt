@@ -7,7 +7,7 @@ use Prim.Native.Nat.{ℕ, zero, suc, _+_, _/_, _%_, _^_, _≤_, _<_, min, suc-le
 use native.Mathlib.Nat.{suc-ne-zero, zero-lt-suc, le-of-suc-le-suc}
 use native.Mathlib.Decide.{ℕ-discrete, decLe}
 use native.Mathlib.Omega.{arith}
-use lib.ListN.{length, getD, set, length-set, length-map, length-replicate, getD-replicate, List·getD-map, List·getD-eq-default}
+use lib.ListN.{length, getD, length-set, length-map, length-replicate, getD-replicate, List·getD-map, List·getD-eq-default}
 use lib.Seq.{getD-set-same, getD-set-other}
 use lib.Pow.{pow-pos}
 use lib.Bits.{xor-lt}

@@ -8,7 +8,7 @@ use lib.Arith.{bin-ind}
 use lib.Bits.{bitAnd, and-comm, and-zero-r, xor-comm, xor-self}
 use lib.Count.{ones, onesIn, ones-step}
 use Rattle.coding.specs.Word.{_⊕_, bit, weight, distance, parity}
-use Rattle.coding.proofs.WordLaws.{halves-eq, xor-half, xor-odd, and-half, and-odd, xor-eq, xor-assoc, xor-cancel, xor-cancel-r, bit-half, pow-half, pow-even, half-lt}
+use Rattle.coding.proofs.WordLaws.{halves-eq, xor-half, xor-odd, and-half, and-odd, xor-eq, xor-assoc, xor-cancel-r, bit-half, pow-half, pow-even, half-lt}
 
 pub weight-zero : weight 0 ≡ 0
 unfolding ones

@@ -1,17 +1,16 @@
 -- Laws of the width: zero rows at the end of a table change nothing, so the reduced rows in m places are those in n places with
 -- zeros after them, and so are the check rows and syndromes. Assumes nothing.
 use mathlib.Core.Path.{_≡_, refl, sym, ap, ap₂, _∙_}
-use mathlib.Core.Logic.{_≢_}
 use mathlib.Core.List.{List, [], _∷_, _++_, map}
 use Prim.Native.Nat.{ℕ, zero, suc, _+_, _-_, _*_, _/_, _%_, _^_, _≤_, _<_, suc-le-suc}
-use native.Mathlib.Nat.{suc-ne-zero, lt-of-lt-of-le, zero-div}
+use native.Mathlib.Nat.{suc-ne-zero, lt-of-lt-of-le}
 use native.Mathlib.Decide.{ℕ-discrete, decLe}
 use native.Mathlib.Omega.{arith}
-use lib.ListN.{length, getD, set, length-append, length-map, length-replicate}
+use lib.ListN.{length, set, length-map}
 use lib.Seq.{set-append-left}
 use lib.Pow.{pow-mono}
 use lib.Count.{trailingZeros}
-use Rattle.coding.specs.Lists.{blank, padded}
+use Rattle.coding.specs.Lists.{blank}
 use Rattle.coding.specs.Word.{_⊕_, bit}
 use Rattle.coding.specs.Matrix.{sel, encode, Inside}
 use Rattle.coding.specs.Reduced.{Leads, rest, wipe, put, addTo, reduceFrom, reduce, rowsOf}

@@ -9,17 +9,19 @@ ghost use Prim.Native.Nat.{_<_};
 ghost use lib.ListN.{length};
 ghost use Rattle.io.specs.Counts.{Counts};
 ghost use Rattle.sheet.specs.Sheet.{maxSheet};
+ghost use Rattle.sheet_program.specs.Enough.{Enough};
 
 fn complain(text: &[u8]) {
     io::write_all(STDERR_FILENO, b"decode_sheet: ");
     io::write_all(STDERR_FILENO, text);
 }
 
-// Reads until the input ends or the buffer is full; answers how many bytes there are. One byte more than a sheet may have is enough
-// to refuse it, and the buffer must hold that byte.
+// Reads until the input ends or the buffer is full; answers how many bytes there are. A buffer with room for one byte more than a sheet
+// may have holds enough of any input.
 fn read_input(bytes: &mut [u8]) -> usize
     requires { ⌜ maxSheet < length (now bytes) ⌝ }
     ensures { λ r. ⌜ Counts r (now (bytes .exit)) ⌝ }
+    ensures { λ _. ⌜ Enough (length (now (bytes .entry))) ⌝ }
 {
     io::read_full(STDIN_FILENO, bytes)
 }

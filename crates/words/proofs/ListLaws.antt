@@ -5,7 +5,6 @@ use Prim.Native.Nat.{ℕ, _≤_}
 use lib.Dec.{eqb, leb}
 use lib.ListN.{length, drop, length-map}
 use borrow.Author.Tests.{leb-true, eqb-true}
-use Rattle.coding.specs.Lists.{first}
 use Rattle.coding.specs.Matrix.{Inside}
 use Rattle.words.specs.Limits.{maxWords}
 use Rattle.words.specs.Refusal.{andThen, onDone}

@@ -1,6 +1,6 @@
 -- `leaders::build::fill_words`: the recursion is the definition's, the words without the highest place and then those with it; the
 -- number of places falls. Assumes nothing.
-use mathlib.Core.Path.{_≡_, _∙_}
+use mathlib.Core.Path.{_∙_}
 use mathlib.Core.Logic.{_≢_}
 use native.Mathlib.Omega.{arith}
 use Rattle.coding.proofs.MachineLaws.{shl-one}

@@ -1,5 +1,5 @@
 -- `leaders::build::build`: the columns give every syndrome an entry. Assumes nothing.
-use mathlib.Core.Path.{_≡_, sym, ap, _∙_}
+use mathlib.Core.Path.{_≡_, ap, _∙_}
 use Prim.Native.Nat.{ℕ, suc, _^_}
 use lib.ListN.{length}
 use lib.Pow.{pow-pos, pow-lt}

@@ -1,11 +1,11 @@
 -- `leaders::build::clear`: the first i entries are blank. Assumes nothing.
-use mathlib.Core.Path.{_≡_, refl, sym, ap, _∙_}
+use mathlib.Core.Path.{_≡_, ap, _∙_}
 use mathlib.Core.List.{List, _++_}
 use Prim.Native.Nat.{ℕ, _≤_, _<_, _-_}
 use lib.ListN.{length, replicate, drop, set, length-set}
 use mathlib.Core.List.{append-nil}
 use lib.Seq.{drop-length}
-use borrow.Author.Fill.{fill-none, fill-more}
+use borrow.Author.Fill.{fill-more}
 use Rattle.coding.specs.Leader.{noLeader}
 use borrow.Author.Needs.{needs}
 use native.Mathlib.Omega.{arith}

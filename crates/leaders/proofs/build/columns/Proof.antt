@@ -1,7 +1,7 @@
 -- `leaders::build::columns`: the first p entries are columns. Assumes nothing.
-use mathlib.Core.Path.{_≡_, refl, sym, ap, _∙_}
+use mathlib.Core.Path.{_≡_, sym, ap, _∙_}
 use mathlib.Core.List.{List}
-use Prim.Native.Nat.{ℕ, _≤_, _<_, _-_, _^_}
+use Prim.Native.Nat.{ℕ, _≤_, _<_, _-_}
 use lib.ListN.{set, length-replicate}
 use Rattle.coding.specs.Lists.{blank}
 use Rattle.coding.specs.Check.{syndrome}

@@ -1,7 +1,6 @@
 -- `leaders::build::fill_list`: the words of weight below t have been offered. Assumes nothing.
-use mathlib.Core.Path.{_≡_, sym, ap, _∙_}
-use Prim.Native.Nat.{ℕ, suc, _≤_, _<_, _-_, _+_}
-use native.Mathlib.Numerals.{add-one}
+use mathlib.Core.Path.{_≡_, ap, _∙_}
+use Prim.Native.Nat.{suc, _≤_, _-_, _+_}
 use lib.ListN.{length, set, length-set, length-replicate}
 use Rattle.coding.specs.Matrix.{encode}
 use Rattle.coding.specs.Leader.{noLeader}

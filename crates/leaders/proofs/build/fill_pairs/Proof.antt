@@ -1,6 +1,6 @@
 -- `leaders::build::fill_pairs`: the pairs of places below p have been tried. Assumes nothing.
-use mathlib.Core.Path.{_≡_, _∙_}
-use Prim.Native.Nat.{ℕ, _-_, _≤_, _<_}
+use mathlib.Core.Path.{_≡_}
+use Prim.Native.Nat.{_-_, _≤_}
 use native.Mathlib.Omega.{arith}
 use Rattle.coding.proofs.MachineLaws.{shl-one}
 use Rattle.leaders.specs.Built.{Tried}

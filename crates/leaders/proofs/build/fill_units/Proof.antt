@@ -1,5 +1,5 @@
 -- `leaders::build::fill_units`: the words prefix + 2 ^ i for the places i below p have been tried. Assumes nothing.
-use mathlib.Core.Path.{_≡_, refl, sym, ap, _∙_}
+use mathlib.Core.Path.{_≡_, refl, _∙_}
 use mathlib.Core.Logic.{⊎-elim}
 use mathlib.Core.List.{List}
 use Prim.Native.Nat.{ℕ, _<_, _-_, _+_, _*_, _%_, _^_}
@@ -9,7 +9,7 @@ use borrow.Author.Needs.{scaled-fits}
 use Rattle.coding.specs.Word.{_⊕_}
 use Rattle.coding.specs.Leader.{noLeader}
 use Rattle.coding.proofs.MachineLaws.{shl-one}
-use Rattle.leaders.proofs.TryLaws.{Units, units-start, units-long, unit-at, unit-entry, unit-fits, unit-left, unit-stored, unit-held, units-end, units-full}
+use Rattle.leaders.proofs.TryLaws.{Units, units-start, unit-entry, unit-fits, unit-left, unit-stored, unit-held, units-end, units-full}
 use native.Mathlib.Omega.{arith}
 use Rattle.leaders.proofs.build.fill_units.Statement.{statement}
 use Rattle.leaders.proofs.build.fill_units.Tie as tie
