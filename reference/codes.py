@@ -1,4 +1,4 @@
-"""Binary linear block codes as document 01 defines them, by walks over all codewords and all words.
+"""Binary linear block codes as document 01, the specification, defines them, by walks over all codewords and all words.
 
 A word is the number whose bit i is place i. A cause is a pair of its number and the value beside it, or None. Rows are a tuple.
 """

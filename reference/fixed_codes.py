@@ -1,4 +1,5 @@
-"""The two fixed codes as document 01 defines them, parts 6 to 8: the extended Golay code (24,12) and the (72,64) code."""
+"""The two fixed codes as document 01, the specification, defines them in parts 6 to 8: the extended Golay code (24,12) and the (72,64)
+code."""
 from itertools import combinations
 
 from codes import codewords, weight, word

@@ -1,4 +1,4 @@
-"""The codes of the cases: document 01's, published ones, and one by a series."""
+"""The codes of the cases: those of document 01, the specification, published ones, and one by a series."""
 from codes import weight, word
 
 MAX = 2**32 - 1

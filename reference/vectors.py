@@ -1,6 +1,6 @@
 #!/usr/bin/env python3
-"""The records of crates/vectors (argument "stdin") and what the program prints for them, from document 01 alone (codes.py and
-fixed_codes.py)."""
+"""The records of crates/vectors (argument "stdin") and what the program prints for them, from document 01, the specification,
+alone (codes.py and fixed_codes.py)."""
 import sys
 
 from cases_decode import by_chance, decode_refusals, lent_lists, mixed_decode, published_codes, small_codes, worked

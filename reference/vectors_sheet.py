@@ -1,5 +1,6 @@
 #!/usr/bin/env python3
-"""The sheets of crates/vectors_sheet (argument "stdin") and what the program prints for them, from document 01 alone (codes.py)."""
+"""The sheets of crates/vectors_sheet (argument "stdin") and what the program prints for them, from document 01, the specification, alone
+(codes.py)."""
 import random
 import sys
 from itertools import combinations
