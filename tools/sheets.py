@@ -12,10 +12,11 @@ CUT, TAG = 12, 13                 # the numbers of a sheet that cannot be read
 class Length(NamedTuple):
     fits: Callable[[int], bool]
     fault: str                    # what a length that does not fit is said to be
+    words: bool                   # whether the content is words of 4 bytes
 
 
-BYTE = Length(lambda size: size == 1, 'is not 1')
-WORDS = Length(lambda size: size % 4 == 0, 'is not a multiple of 4')
+BYTE = Length(lambda size: size == 1, 'is not 1', False)
+WORDS = Length(lambda size: size % 4 == 0, 'is not a multiple of 4', True)
 
 
 class Tag(NamedTuple):
