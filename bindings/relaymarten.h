@@ -1,7 +1,7 @@
 /* Relaymarten: proved encoding and decoding of binary linear block codes, for C and C++.
  *
- * Build:  rt staticlib c_interface     gives target/staticlib/libc_interface.a
- * Link:   cc program.c target/staticlib/libc_interface.a
+ * Build:  rt staticlib relaymarten     gives target/staticlib/librelaymarten.a
+ * Link:   cc program.c target/staticlib/librelaymarten.a
  *
  * A word of n places is the number whose bit i is place i. A generator matrix is a list of k rows, each a word of n places; message
  * place i selects row i. n is 2 to 28, k is 1 to 16, n - k is 1 to 12; a batch has at most 512 words.
@@ -30,7 +30,6 @@
 #ifndef RELAYMARTEN_H
 #define RELAYMARTEN_H
 
-#include <stdbool.h>
 #include <stddef.h>
 #include <stdint.h>
 
@@ -66,13 +65,13 @@ uint32_t relay_message(uint32_t n, uint32_t k, const uint32_t *rows, size_t rows
                        const uint32_t *words, size_t words_len,
                        uint32_t *out, size_t out_len, size_t *value);
 
-/* Decodes received words: as the nearest codewords where `within` is false (the radius is not looked at), else as the codewords at a
- * distance of at most `radius`. Causes 1 to 4, 5 where `within` is true, 6 to 9 and 11; cause 8 asks both output lists.
+/* Decodes received words: as the nearest codewords where `within` is 0 (the radius is not looked at), else as the codewords at a
+ * distance of at most `radius`. Causes 1 to 4, 5 where `within` is not 0, 6 to 9 and 11; cause 8 asks both output lists.
  * Written: slot i of `out` becomes the codeword of word i and slot i of `counts` its distance; a far word leaves the received word and
  * RELAY_FAR. The first 2^(n - k) entries of `work` become the coset leaders by syndrome. Later slots keep their values. Under 11
  * `work` holds the leaders, and 2^32 - 1 where there is none. */
 uint32_t relay_decode(uint32_t n, uint32_t k, const uint32_t *rows, size_t rows_len,
-                      bool within, uint32_t radius,
+                      uint32_t within, uint32_t radius,
                       const uint32_t *words, size_t words_len,
                       uint32_t *out, size_t out_len, uint8_t *counts, size_t counts_len,
                       uint32_t *work, size_t work_len, size_t *value);

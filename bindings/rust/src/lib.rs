@@ -27,7 +27,7 @@
 //! # Ok::<(), Refusal>(())
 //! ```
 //!
-//! The static library that `rt staticlib c_interface` writes is linked; `bindings/relaymarten.h` declares the same calls for C. The
+//! The static library that `rt staticlib relaymarten` writes is linked; `bindings/relaymarten.h` declares the same calls for C. The
 //! proofs ask of a caller that no pointer is null and that what is written overlaps nothing else: what Rust's references are.
 
 #![warn(missing_docs)]
@@ -133,8 +133,8 @@ pub fn message(n: u32, k: u32, rows: &[u32], words: &[u32], out: &mut [u32]) -> 
 /// their values (under 11 the working list is written).
 pub fn decode(n: u32, k: u32, rows: &[u32], reading: Reading, words: &[u32], lent: Lent) -> Result<(), Refusal> {
     let (within, radius) = match reading {
-        Reading::Nearest => (false, 0),
-        Reading::Within(radius) => (true, radius),
+        Reading::Nearest => (0, 0),
+        Reading::Within(radius) => (1, radius),
     };
     told(|value| unsafe {
         raw::relay_decode(

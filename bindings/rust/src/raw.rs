@@ -2,7 +2,7 @@
 #![allow(clippy::missing_safety_doc)]
 
 #[rustfmt::skip]
-#[link(name = "c_interface", kind = "static")]
+#[link(name = "relaymarten", kind = "static")]
 extern "C" {
     pub fn relay_describe(
         n: u32, k: u32, rows: *const u32, rows_len: usize, reduced: *mut [u32; 16], checks: *mut [u32; 12],
@@ -17,7 +17,7 @@ extern "C" {
         out: *mut u32, out_len: usize, value: *mut usize,
     ) -> u32;
     pub fn relay_decode(
-        n: u32, k: u32, rows: *const u32, rows_len: usize, within: bool, radius: u32, words: *const u32, words_len: usize,
+        n: u32, k: u32, rows: *const u32, rows_len: usize, within: u32, radius: u32, words: *const u32, words_len: usize,
         out: *mut u32, out_len: usize, counts: *mut u8, counts_len: usize, work: *mut u32, work_len: usize, value: *mut usize,
     ) -> u32;
     pub fn relay_golay_encode(message: u32, word: *mut u32, value: *mut usize) -> u32;

@@ -1,0 +1,13 @@
+-- `relaymarten::codes::relay_describe`: what Describe ensures, told as a number and a value. Assumes nothing.
+use borrow.Author.Needs.{needs}
+use Rattle.relaymarten.proofs.ToldLaws.{told}
+use Rattle.relaymarten.proofs.codes.relay_describe.Statement.{statement}
+use Rattle.relaymarten.proofs.codes.relay_describe.Tie as tie
+
+returns : tie.Need-returns
+returns c =
+    let C = c .before .before .before .before .before .describe .ensures in
+    told _ (C .reduced .answer) C (c .tell .ensures .0) (c .tell .ensures .1)
+
+pub relay-describe-spec : {M : Type 1} → statement M
+relay-describe-spec = tie.close (tie.spec (λ c κs. search needs) (λ c κs. search needs) returns)

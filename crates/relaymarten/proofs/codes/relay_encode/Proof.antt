@@ -1,0 +1,13 @@
+-- `relaymarten::codes::relay_encode`: what Encode ensures, told as a number and a value. Assumes nothing.
+use borrow.Author.Needs.{needs}
+use Rattle.relaymarten.proofs.ToldLaws.{told}
+use Rattle.relaymarten.proofs.codes.relay_encode.Statement.{statement}
+use Rattle.relaymarten.proofs.codes.relay_encode.Tie as tie
+
+returns : tie.Need-returns
+returns c =
+    let C = c .before .before .before .before .encode .ensures in
+    told _ (C .answer) C (c .tell .ensures .0) (c .tell .ensures .1)
+
+pub relay-encode-spec : {M : Type 1} → statement M
+relay-encode-spec = tie.close (tie.spec (λ c κs. search needs) (λ c κs. search needs) (λ c. search needs) returns)

@@ -1,0 +1,111 @@
+// Operations on any generator matrix.
+use crate::told::tell;
+use decoder::batch::decode;
+use encoder::encode::encode;
+use encoder::message::message;
+use outcomes::outcome::Reading;
+use weights::describe::describe;
+use words::limits::MAX_CHECKS;
+use words::limits::MAX_ROWS;
+use words::limits::WIDTH;
+ghost use mathlib.Core.Path.{_≡_};
+ghost use lib.ListN.{length};
+ghost use Rattle.linear.specs.Accepted.{matrixAnswer};
+ghost use Rattle.encoder.specs.Encoded.{encodeAnswer, Encoded};
+ghost use Rattle.encoder.specs.MessagesRead.{messageAnswer, MessagesRead};
+ghost use Rattle.weights.specs.Described.{Described};
+ghost use Rattle.outcomes.specs.Causes.{decodeAnswer};
+ghost use Rattle.decoder.specs.Decoded.{Decoded};
+ghost use Rattle.relaymarten.specs.Reading.{readingOf};
+ghost use Rattle.relaymarten.specs.Told.{Told};
+
+// Writes what a matrix's code is: its reduced rows, check rows, weight counts, minimum distance and a codeword of that weight.
+#[no_mangle]
+pub extern "C" fn relay_describe(
+    n: u32,
+    k: u32,
+    rows: &[u32],
+    reduced: &mut [u32; MAX_ROWS],
+    checks: &mut [u32; MAX_CHECKS],
+    counts: &mut [u32; WIDTH + 1],
+    dmin: &mut u32,
+    lightest: &mut u32,
+    value: &mut usize,
+) -> u32
+    ensures { λ r. ⌜ Told (λ a. Described n k (now (rows .entry)) (record { answer = a; rows = now (reduced .exit); checks = now (checks .exit); dmin = now (dmin .exit); counts = now (counts .exit); lightest = now (lightest .exit) })) (matrixAnswer n k (now (rows .entry))) r (now (value .exit)) ⌝ }
+{
+    let d = describe(n, k, rows);
+    let first = d.rows;
+    let second = d.checks;
+    let third = d.counts;
+    *reduced = first;
+    *checks = second;
+    *counts = third;
+    *dmin = d.dmin;
+    *lightest = d.lightest;
+    let a = d.answer;
+    tell(a, value)
+}
+
+// Writes the codeword of each message of k places.
+#[no_mangle]
+pub extern "C" fn relay_encode(
+    n: u32,
+    k: u32,
+    rows: &[u32],
+    messages: &[u32],
+    out: &mut [u32],
+    value: &mut usize,
+) -> u32
+    ensures { λ r. ⌜ Told (λ a. Encoded n k (now (rows .entry)) (now (messages .entry)) (now (out .entry)) a (now (out .exit))) (encodeAnswer n k (now (rows .entry)) (now (messages .entry)) (length (now (out .entry)))) r (now (value .exit)) ⌝ }
+{
+    let a = encode(n, k, rows, messages, out);
+    tell(a, value)
+}
+
+// Writes the message of each codeword.
+#[no_mangle]
+pub extern "C" fn relay_message(
+    n: u32,
+    k: u32,
+    rows: &[u32],
+    words: &[u32],
+    out: &mut [u32],
+    value: &mut usize,
+) -> u32
+    ensures { λ r. ⌜ Told (λ a. MessagesRead n k (now (rows .entry)) (now (words .entry)) (now (out .entry)) a (now (out .exit))) (messageAnswer n k (now (rows .entry)) (now (words .entry)) (length (now (out .entry)))) r (now (value .exit)) ⌝ }
+{
+    let a = message(n, k, rows, words, out);
+    tell(a, value)
+}
+
+// The reading: nearest where `within` is 0, whatever the radius, else within the radius.
+fn reading_of(within: u32, radius: u32) -> Reading
+    ensures { λ r. ⌜ r ≡ readingOf within radius ⌝ }
+{
+    if within == 0 {
+        return Reading::Nearest;
+    }
+    Reading::Within(radius)
+}
+
+// Decodes each word, as the nearest codeword where `within` is 0, else within the radius; the working list becomes the leaders.
+#[no_mangle]
+pub extern "C" fn relay_decode(
+    n: u32,
+    k: u32,
+    rows: &[u32],
+    within: u32,
+    radius: u32,
+    words: &[u32],
+    out: &mut [u32],
+    counts: &mut [u8],
+    work: &mut [u32],
+    value: &mut usize,
+) -> u32
+    ensures { λ r. ⌜ Told (λ a. Decoded n k (now (rows .entry)) (readingOf within radius) (now (words .entry)) (now (out .entry)) (now (counts .entry)) (now (work .entry)) a (now (out .exit)) (now (counts .exit)) (now (work .exit))) (decodeAnswer n k (now (rows .entry)) (readingOf within radius) (now (words .entry)) (length (now (out .entry))) (length (now (counts .entry))) (length (now (work .entry)))) r (now (value .exit)) ⌝ }
+{
+    let reading = reading_of(within, radius);
+    let a = decode(n, k, rows, reading, words, out, counts, work);
+    tell(a, value)
+}

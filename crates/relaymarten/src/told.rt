@@ -1,0 +1,18 @@
+// An answer as C receives it: a number, and a value through a reference.
+use words::answer::Answer;
+use words::answer::number;
+use words::answer::value;
+ghost use mathlib.Core.Path.{_≡_};
+ghost use Rattle.relaymarten.specs.Told.{numberIn, valueIn};
+
+pub(crate) fn tell(a: Answer, beside: &mut usize) -> u32
+    ensures { λ r. ⌜ r ≡ numberIn a ⌝ }
+    ensures { λ _. ⌜ now (beside .exit) ≡ valueIn a ⌝ }
+{
+    let Answer::Refused(c) = a else {
+        *beside = 0;
+        return 0;
+    };
+    *beside = value(c);
+    number(c)
+}
