@@ -2,7 +2,7 @@
 #include "../bindings/relaymarten.h"
 #include <string.h>
 
-enum { WORDS = 512, FIXED = 1000 };
+enum { WORDS = RELAY_MAX_WORDS, FIXED = 1000 };
 
 static uint64_t state = 0x9E3779B97F4A7C15;
 
@@ -16,15 +16,16 @@ static uint64_t next(void)
 
 /* What a case reads, and what each side writes. */
 static struct {
-    uint32_t n, k, rows[16], words[WORDS], fixed[FIXED];
+    uint32_t n, k, rows[RELAY_MAX_ROWS], words[WORDS], fixed[FIXED];
     size_t count, prepared;
-    uint8_t check[FIXED], sheet[4096];
+    uint8_t check[FIXED], sheet[RELAY_MAX_SHEET];
     uint64_t data[FIXED];
     size_t sheet_len;
 } in;
 
 typedef struct {
-    uint32_t number, reduced[16], checks[12], weights[33], dmin, lightest, words[WORDS], work[4096], fixed[FIXED];
+    uint32_t number, reduced[RELAY_MAX_ROWS], checks[RELAY_MAX_CHECKS], weights[RELAY_WEIGHTS], dmin, lightest, words[WORDS];
+    uint32_t work[RELAY_MAX_LEADERS], fixed[FIXED];
     uint8_t counts[FIXED], check[FIXED], out[RELAY_MAX_OUTPUT];
     uint64_t data[FIXED];
     size_t value, length;
@@ -128,15 +129,15 @@ static void message_plain(void) { LISTS(plain_message, theirs); }
 
 static void decode_ours(void)
 {
-    ours.number = relay_decode(in.n, in.k, in.rows, in.k, false, 0, in.words, in.count, ours.words, WORDS, ours.counts, WORDS,
-                               ours.work, 4096, &ours.value);
+    ours.number = relay_decode(in.n, in.k, in.rows, in.k, 0, 0, in.words, in.count, ours.words, WORDS, ours.counts, WORDS,
+                               ours.work, RELAY_MAX_LEADERS, &ours.value);
 }
 
 static void decode_plain(void)
 {
     uint32_t d;
     theirs.number = plain_decode(in.n, in.k, in.rows, in.k, false, 0, in.words, in.count, theirs.words, WORDS, theirs.counts, WORDS,
-                                 theirs.work, 4096, &theirs.value, false, &d);
+                                 theirs.work, RELAY_MAX_LEADERS, &theirs.value, false, &d);
 }
 
 static void golay_messages(void)

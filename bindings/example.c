@@ -17,7 +17,7 @@ static void describe(void)
 {
     uint32_t reduced[RELAY_MAX_ROWS], checks[RELAY_MAX_CHECKS], counts[RELAY_WEIGHTS], dmin, lightest;
     size_t value;
-    if (relay_describe(6, 3, rows, 3, reduced, checks, counts, &dmin, &lightest, &value) != 0)
+    if (relay_describe(6, 3, rows, 3, reduced, checks, counts, &dmin, &lightest, &value) != RELAY_DONE)
         return;
     printf("minimum distance %" PRIu32 ", reduced rows", dmin);
     for (int i = 0; i < 3; i++) {
@@ -41,11 +41,11 @@ static void send(void)
     uint32_t words[3], decoded[3], read[3], work[8];
     uint8_t counts[3];
     size_t value;
-    if (relay_encode(6, 3, rows, 3, messages, 3, words, 3, &value) != 0)
+    if (relay_encode(6, 3, rows, 3, messages, 3, words, 3, &value) != RELAY_DONE)
         return;
     words[1] ^= 1u << 4; /* one place changed */
     words[2] ^= 0x24;    /* two */
-    if (relay_decode(6, 3, rows, 3, true, 1, words, 3, decoded, 3, counts, 3, work, 8, &value) != 0)
+    if (relay_decode(6, 3, rows, 3, 1, 1, words, 3, decoded, 3, counts, 3, work, 8, &value) != RELAY_DONE)
         return;
     for (int i = 0; i < 3; i++) {
         print_word(6, words[i]);
@@ -54,9 +54,14 @@ static void send(void)
         printf(counts[i] == RELAY_FAR ? " far\n" : " %d\n", counts[i]);
     }
     uint32_t number = relay_message(6, 3, rows, 3, decoded, 3, read, 3, &value);
-    printf("read back: number %" PRIu32 ", value %zu\n", number, value);
-    if (relay_message(6, 3, rows, 3, decoded, 2, read, 3, &value) == 0)
-        printf("messages %" PRIu32 " and %" PRIu32 "\n", read[0], read[1]);
+    printf("read back: number %" PRIu32 ", value %zu: %s\n", number, value, relay_text(number));
+    size_t answered = 0; /* the far word is left out */
+    for (int i = 0; i < 3; i++)
+        if (counts[i] != RELAY_FAR)
+            decoded[answered++] = decoded[i];
+    if (relay_message(6, 3, rows, 3, decoded, answered, read, 3, &value) == RELAY_DONE)
+        for (size_t i = 0; i < answered; i++)
+            printf("message %" PRIu32 "\n", read[i]);
 }
 
 static void fixed_codes(void)
@@ -85,6 +90,10 @@ static void sheet(void)
 
 int main(void)
 {
+    if (relay_version() != RELAY_VERSION) {
+        printf("the library has version %" PRIu32 ", the header %d\n", relay_version(), RELAY_VERSION);
+        return 1;
+    }
     describe();
     send();
     fixed_codes();

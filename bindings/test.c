@@ -1,0 +1,147 @@
+/* The header against the library: version, names of the causes, texts, sizes, and every number as `within`. Valid C and C++; built and run
+ * as both by bench/run. Prints each fact that does not hold; exit status 1 where there is one. */
+#include "relaymarten.h"
+#include <stdio.h>
+#include <string.h>
+
+static int failed;
+
+#define HOLDS(fact) holds(fact, #fact, __LINE__)
+
+static void holds(int fact, const char *text, int line)
+{
+    if (!fact) {
+        printf("line %d: does not hold: %s\n", line, text);
+        failed = 1;
+    }
+}
+
+static const uint32_t rows[3] = {0x31, 0x2A, 0x1C};
+static uint32_t words[RELAY_MAX_WORDS + 1], out[RELAY_MAX_WORDS + 1], work[RELAY_MAX_LEADERS];
+static uint8_t counts[RELAY_MAX_WORDS + 1];
+
+static void version(void)
+{
+    HOLDS(relay_version() == RELAY_VERSION);
+    HOLDS(RELAY_VERSION_MAJOR == RELAY_VERSION / 10000);
+    HOLDS(RELAY_VERSION_MINOR == RELAY_VERSION / 100 % 100);
+    HOLDS(RELAY_VERSION_PATCH == RELAY_VERSION % 100);
+}
+
+static void texts(void)
+{
+    const char *unknown = relay_text(99);
+    for (uint32_t i = RELAY_DONE; i <= RELAY_SHEET_TAG; i++) {
+        HOLDS(strlen(relay_text(i)) > 0 && strcmp(relay_text(i), unknown) != 0);
+        for (uint32_t j = 0; j < i; j++)
+            HOLDS(strcmp(relay_text(i), relay_text(j)) != 0);
+    }
+    HOLDS(strlen(unknown) > 0);
+    HOLDS(strcmp(relay_text(RELAY_SHEET_TAG + 1), unknown) == 0);
+    HOLDS(strcmp(relay_text(UINT32_MAX), unknown) == 0);
+}
+
+static uint32_t encode(uint32_t n, uint32_t k, const uint32_t *matrix, size_t rows_len, size_t m, size_t slots)
+{
+    size_t value = 99;
+    return relay_encode(n, k, matrix, rows_len, words, m, out, slots, &value);
+}
+
+static uint32_t decode(uint32_t within, uint32_t radius, size_t m, size_t entries)
+{
+    size_t value = 99;
+    return relay_decode(6, 3, rows, 3, within, radius, words, m, out, m, counts, m, work, entries, &value);
+}
+
+/* A call for each name; RELAY_NO_LEADER cannot arise. */
+static void causes(void)
+{
+    const uint32_t outside[3] = {0x31, 0x2A, 0x40}, dependent[3] = {0x31, 0x2A, 0x1B};
+    const uint32_t other = 1;
+    size_t value = 99;
+    memset(words, 0, sizeof words);
+    HOLDS(encode(6, 3, rows, 3, 1, 1) == RELAY_DONE);
+    HOLDS(encode(RELAY_MAX_PLACES + 1, 3, rows, 3, 1, 1) == RELAY_OUT_OF_RANGE);
+    HOLDS(encode(6, 3, rows, 2, 1, 1) == RELAY_ROW_COUNT);
+    HOLDS(encode(6, 3, outside, 3, 1, 1) == RELAY_ROW_OUTSIDE);
+    HOLDS(encode(6, 3, dependent, 3, 1, 1) == RELAY_DEPENDENT);
+    HOLDS(decode(1, 2, 1, 8) == RELAY_RADIUS_TOO_LARGE);
+    HOLDS(encode(6, 3, rows, 3, RELAY_MAX_WORDS, RELAY_MAX_WORDS) == RELAY_DONE);
+    HOLDS(encode(6, 3, rows, 3, RELAY_MAX_WORDS + 1, RELAY_MAX_WORDS + 1) == RELAY_TOO_MANY_WORDS);
+    words[1] = 8;
+    HOLDS(encode(6, 3, rows, 3, 2, 2) == RELAY_WORD_OUTSIDE);
+    HOLDS(encode(6, 3, rows, 3, 1, 0) == RELAY_SHORT_OUTPUT);
+    HOLDS(decode(0, 0, 1, 7) == RELAY_SHORT_WORK);
+    HOLDS(relay_message(6, 3, rows, 3, &other, 1, out, 1, &value) == RELAY_NO_CODEWORD);
+    HOLDS(value == 0);
+}
+
+/* What relay_run says of a sheet is the line of this cause and value. */
+static int says(const uint8_t *sheet, size_t length, int cause, unsigned value)
+{
+    static uint8_t printed[RELAY_MAX_OUTPUT];
+    char line[40];
+    int wanted = snprintf(line, sizeof line, "refused %d %u\n", cause, value);
+    return relay_run(sheet, length, printed, sizeof printed) == (size_t)wanted && memcmp(printed, line, (size_t)wanted) == 0;
+}
+
+static void sheets(void)
+{
+    static uint8_t sheet[RELAY_MAX_SHEET + 1], room[RELAY_MAX_OUTPUT];
+    HOLDS(says(sheet, 0, RELAY_SHEET_TAG, 0));
+    HOLDS(says(sheet, 2, RELAY_SHEET_LAYOUT, 0));
+    HOLDS(says(sheet, RELAY_MAX_SHEET, RELAY_SHEET_TAG, 0));
+    HOLDS(says(sheet, RELAY_MAX_SHEET + 1, RELAY_SHEET_LAYOUT, RELAY_MAX_SHEET));
+    HOLDS(relay_run(sheet, 0, room, RELAY_MAX_OUTPUT) > 0);
+    room[0] = 7;
+    HOLDS(relay_run(sheet, 0, room, RELAY_MAX_OUTPUT - 1) == 0 && room[0] == 7);
+}
+
+/* Word 0 is far within radius 1, and has a nearest codeword. */
+static void readings(void)
+{
+    static const uint32_t within[] = {1, 2, 3, 0x100, 0x10000, 0x80000000, UINT32_MAX};
+    words[0] = 0x23;
+    words[1] = 0x1F;
+    for (size_t i = 0; i < sizeof within / sizeof *within; i++) {
+        memset(counts, 7, sizeof counts);
+        HOLDS(decode(within[i], 1, 2, 8) == RELAY_DONE);
+        HOLDS(counts[0] == RELAY_FAR && out[0] == 0x23 && counts[1] == 1 && out[1] == 0x1B);
+        HOLDS(decode(within[i], 2, 2, 8) == RELAY_RADIUS_TOO_LARGE);
+    }
+    HOLDS(decode(0, UINT32_MAX, 2, 8) == RELAY_DONE);
+    HOLDS(counts[0] == 2 && out[0] == 0x2A && counts[1] == 1 && out[1] == 0x1B);
+}
+
+/* The largest code: lists of the stated sizes are long enough, and written to their end and no further. */
+static void sizes(void)
+{
+    uint32_t matrix[RELAY_MAX_ROWS], reduced[RELAY_MAX_ROWS + 1], checks[RELAY_MAX_CHECKS + 1], weights[RELAY_WEIGHTS + 1];
+    uint32_t dmin, lightest, word = 0;
+    size_t value, short_work = RELAY_MAX_LEADERS - 1;
+    for (uint32_t i = 0; i < RELAY_MAX_ROWS; i++)
+        matrix[i] = 1u << i | (0x9E3779B9u * (i + 1) & 0xFFF0000u);
+    memset(reduced, 0xA5, sizeof reduced);
+    memset(checks, 0xA5, sizeof checks);
+    memset(weights, 0xA5, sizeof weights);
+    HOLDS(relay_describe(RELAY_MAX_PLACES, RELAY_MAX_ROWS, matrix, RELAY_MAX_ROWS, reduced, checks, weights, &dmin, &lightest, &value)
+          == RELAY_DONE);
+    HOLDS(reduced[RELAY_MAX_ROWS - 1] != 0xA5A5A5A5 && reduced[RELAY_MAX_ROWS] == 0xA5A5A5A5);
+    HOLDS(checks[RELAY_MAX_CHECKS - 1] != 0xA5A5A5A5 && checks[RELAY_MAX_CHECKS] == 0xA5A5A5A5);
+    HOLDS(weights[RELAY_WEIGHTS - 1] == 0 && weights[RELAY_WEIGHTS] == 0xA5A5A5A5);
+    HOLDS(relay_decode(RELAY_MAX_PLACES, RELAY_MAX_ROWS, matrix, RELAY_MAX_ROWS, 0, 0, &word, 1, out, 1, counts, 1, work,
+                       RELAY_MAX_LEADERS, &value) == RELAY_DONE);
+    HOLDS(relay_decode(RELAY_MAX_PLACES, RELAY_MAX_ROWS, matrix, RELAY_MAX_ROWS, 0, 0, &word, 1, out, 1, counts, 1, work,
+                       short_work, &value) == RELAY_SHORT_WORK);
+}
+
+int main(void)
+{
+    version();
+    texts();
+    causes();
+    sheets();
+    readings();
+    sizes();
+    return failed;
+}
