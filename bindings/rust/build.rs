@@ -1,8 +1,29 @@
-// The static library is the one that `rt staticlib relaymarten` writes at the root of the repository.
-use std::path::Path;
+//! Finds the static library that `rt staticlib relaymarten` writes: in the folder RELAYMARTEN_LIB_DIR (absolute, or from this crate's
+//! own folder), without it in `target/staticlib` of the repository.
+use std::env;
+use std::path::{Path, PathBuf};
+
+const FOLDER: &str = "RELAYMARTEN_LIB_DIR";
+const LIBRARY: &str = "librelaymarten.a";
+
+fn folder() -> PathBuf {
+    let own = Path::new(env!("CARGO_MANIFEST_DIR"));
+    match env::var_os(FOLDER) {
+        Some(given) if !given.is_empty() => own.join(given),
+        _ => own.join("../../target/staticlib"),
+    }
+}
 
 fn main() {
-    let root = Path::new(env!("CARGO_MANIFEST_DIR")).join("../../target/staticlib");
-    println!("cargo:rustc-link-search=native={}", root.display());
-    println!("cargo:rerun-if-changed={}", root.join("librelaymarten.a").display());
+    let folder = folder();
+    let library = folder.join(LIBRARY);
+    println!("cargo::rerun-if-env-changed={FOLDER}");
+    println!("cargo::rerun-if-changed={}", library.display());
+    println!("cargo::rustc-link-search=native={}", folder.display());
+    if !library.is_file() {
+        println!(
+            "cargo::error={} is missing: run `rt staticlib relaymarten` at the root of the repository, or set {FOLDER} to the folder of {LIBRARY}",
+            library.display()
+        );
+    }
 }

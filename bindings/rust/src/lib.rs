@@ -2,10 +2,10 @@
 //!
 //! A word of n places is the number whose bit i is place i. A generator matrix is a list of k rows, each a word of n places; message
 //! place i selects row i. n is 2 to 28, k is 1 to 16, n - k is 1 to 12. Any other input is refused, by a [`Refusal`] that has the
-//! specification's number and value; no call panics, allocates or keeps anything.
+//! specification's number and value; no call panics, allocates or keeps anything, and calls may run in several threads at once.
 //!
 //! ```
-//! use relaymarten::{decode, encode, message, Lent, Reading, Refusal};
+//! use relaymarten::{decode, encode, message, Lent, Outcome, Reading, Refusal};
 //!
 //! // a (7,4) code; the row 1101000, place 0 leftmost, is 0b0001011
 //! let rows = [0b0001011, 0b0010110, 0b0100111, 0b1000101];
@@ -16,39 +16,73 @@
 //! let received = [sent[0] ^ 0b0001000];
 //! let (mut words, mut counts, mut work) = ([0; 1], [0; 1], [0; 8]);
 //! let lent = Lent { codewords: &mut words, counts: &mut counts, work: &mut work };
-//! decode(7, 4, &rows, Reading::Nearest, &received, lent)?;
-//! assert_eq!((words, counts), (sent, [1]));
+//! for outcome in decode(7, 4, &rows, Reading::Within(1), &received, lent)? {
+//!     match outcome {
+//!         Outcome::Clean(_) => unreachable!("a place was changed"),
+//!         Outcome::Mended(codeword, count) => assert_eq!((codeword, count), (sent[0], 1)),
+//!         Outcome::Far => unreachable!("every word is within 1 place of a codeword of this code"),
+//!     }
+//! }
 //!
 //! // a word that is no codeword is not read back
 //! let mut read = [0; 1];
 //! assert_eq!(message(7, 4, &rows, &received, &mut read), Err(Refusal::NoCodeword(0)));
-//! message(7, 4, &rows, &words, &mut read)?;
+//! message(7, 4, &rows, &sent, &mut read)?;
 //! assert_eq!(read, [0b1011]);
 //! # Ok::<(), Refusal>(())
 //! ```
 //!
-//! The static library that `rt staticlib relaymarten` writes is linked; `bindings/relaymarten.h` declares the same calls for C. The
-//! proofs ask of a caller that no pointer is null and that what is written overlaps nothing else: what Rust's references are.
+//! The static library that `rt staticlib relaymarten` writes is linked: from `target/staticlib` of the repository, or from the folder that
+//! the environment variable `RELAYMARTEN_LIB_DIR` names when the crate is built. [`raw`] has its calls as `bindings/relaymarten.h` declares
+//! them. What the proofs ask of a caller there (pointers that are not null, aligned and valid for their length, and nothing written that
+//! overlaps anything else) is what Rust's references are.
 
+#![no_std]
 #![warn(missing_docs)]
 
+mod outcome;
 #[allow(missing_docs)]
 pub mod raw;
 mod refusal;
 
+pub use outcome::{Decoded, Outcome, Outcomes};
 pub use refusal::Refusal;
+
+use outcome::front;
+
+/// The version of the library that this crate is written for: 10,000 times the major number, 100 times the minor one, and the patch.
+pub const VERSION: u32 = 200;
+
+/// The most places of a word, n.
+pub const MAX_PLACES: u32 = 28;
+
+/// The most rows of a matrix, k.
+pub const MAX_ROWS: usize = 16;
+
+/// The most check rows, n - k.
+pub const MAX_CHECKS: usize = 12;
+
+/// The entries of a list of weight counts: weights 0 to 32.
+pub const WEIGHTS: usize = 33;
 
 /// The most words of one call.
 pub const MAX_WORDS: usize = 512;
 
-/// The count of a word that is far: no codeword is within the radius.
-pub const FAR: u8 = 255;
+/// The most entries that a working list needs, 2^(n - k).
+pub const MAX_LEADERS: usize = 4096;
+
+/// The most bytes of a code sheet.
+pub const MAX_SHEET: usize = 4096;
 
 /// The bytes that [`run`] needs room for.
 pub const MAX_OUTPUT: usize = 20480;
 
+/// The count of a word that is far, in the lists of [`decode`] and in [`raw`].
+pub const FAR: u8 = 255;
+
 /// How received words are read.
-#[derive(Clone, Copy, Debug, PartialEq, Eq)]
+#[derive(Clone, Copy, Debug, PartialEq, Eq, Hash)]
+#[non_exhaustive]
 pub enum Reading {
     /// Each word is decoded to a nearest codeword.
     Nearest,
@@ -58,13 +92,14 @@ pub enum Reading {
 
 /// What the code of a matrix is. Entries past k, n - k and n are 0.
 #[derive(Clone, Debug, PartialEq, Eq)]
+#[non_exhaustive]
 pub struct Description {
     /// The rows of the reduced row echelon form.
-    pub reduced: [u32; 16],
+    pub reduced: [u32; MAX_ROWS],
     /// The parity-check rows.
-    pub checks: [u32; 12],
+    pub checks: [u32; MAX_CHECKS],
     /// The number of codewords of each weight.
-    pub weight_counts: [u32; 33],
+    pub weight_counts: [u32; WEIGHTS],
     /// The minimum distance.
     pub dmin: u32,
     /// A codeword of that weight.
@@ -78,8 +113,17 @@ pub struct Lent<'a> {
     pub codewords: &'a mut [u32],
     /// A slot for each word: its distance from the codeword, or [`FAR`].
     pub counts: &'a mut [u8],
-    /// 2^(n - k) entries: the coset leaders, by syndrome.
+    /// 2^(n - k) entries, [`MAX_LEADERS`] for any code: the coset leaders, by syndrome.
     pub work: &'a mut [u32],
+}
+
+/// A word of the (72,64) code.
+#[derive(Clone, Copy, Debug, Default, PartialEq, Eq, Hash)]
+pub struct HsiaoWord {
+    /// The check byte: places 0 to 7.
+    pub check: u8,
+    /// The data: places 8 to 71.
+    pub data: u64,
 }
 
 /// Makes a call that writes a value through its last pointer, and turns number and value into a result.
@@ -91,12 +135,18 @@ fn told(call: impl FnOnce(*mut usize) -> u32) -> Result<(), Refusal> {
     }
 }
 
-// SAFETY, for every call below: each pointer comes from a reference, with the length of its list, so that none is null; the mutable
-// ones are those of different borrows or locals, so that nothing written overlaps anything else. No call keeps a pointer.
+// SAFETY, for every call below: each pointer comes from a reference, with the length of its list, so that none is null, all are aligned
+// and valid; the mutable ones are those of different borrows or locals, so that nothing written overlaps anything else. No call keeps a
+// pointer.
+
+/// The version of the linked library, to be compared with [`VERSION`].
+pub fn version() -> u32 {
+    unsafe { raw::relay_version() }
+}
 
 /// What the code of a matrix is. Causes 1 to 4.
 pub fn describe(n: u32, k: u32, rows: &[u32]) -> Result<Description, Refusal> {
-    let mut d = Description { reduced: [0; 16], checks: [0; 12], weight_counts: [0; 33], dmin: 0, lightest: 0 };
+    let mut d = Description { reduced: [0; MAX_ROWS], checks: [0; MAX_CHECKS], weight_counts: [0; WEIGHTS], dmin: 0, lightest: 0 };
     told(|value| unsafe {
         raw::relay_describe(
             n,
@@ -122,16 +172,19 @@ pub fn encode(n: u32, k: u32, rows: &[u32], messages: &[u32], out: &mut [u32]) -
     })
 }
 
-/// Writes the message of codeword i to slot i. Causes 1 to 4, 6 to 8 and 10. Later slots, and on a refusal all, keep their values.
+/// Writes the message of codeword i to slot i. Causes 1 to 4, 6 to 8 and 10: one word that is no codeword refuses the whole list. Later
+/// slots, and on a refusal all, keep their values.
 pub fn message(n: u32, k: u32, rows: &[u32], words: &[u32], out: &mut [u32]) -> Result<(), Refusal> {
     told(|value| unsafe {
         raw::relay_message(n, k, rows.as_ptr(), rows.len(), words.as_ptr(), words.len(), out.as_mut_ptr(), out.len(), value)
     })
 }
 
-/// Decodes received words into the lent lists. Causes 1 to 4, 5 within a radius, 6 to 9 and 11. Later slots, and on a refusal all, keep
-/// their values (under 11 the working list is written).
-pub fn decode(n: u32, k: u32, rows: &[u32], reading: Reading, words: &[u32], lent: Lent) -> Result<(), Refusal> {
+/// Decodes received words into the lent lists, and gives the outcomes over them. Causes 1 to 4, 5 within a radius, 6 to 9 and 11. Later
+/// slots, and on a refusal all, keep their values (under 11 the working list is written).
+///
+/// The leaders are built in each call, which takes from microseconds to about 0.2 seconds, by the matrix; more words cost little.
+pub fn decode<'a>(n: u32, k: u32, rows: &[u32], reading: Reading, words: &[u32], lent: Lent<'a>) -> Result<Decoded<'a>, Refusal> {
     let (within, radius) = match reading {
         Reading::Nearest => (0, 0),
         Reading::Within(radius) => (1, radius),
@@ -154,7 +207,9 @@ pub fn decode(n: u32, k: u32, rows: &[u32], reading: Reading, words: &[u32], len
             lent.work.len(),
             value,
         )
-    })
+    })?;
+    let leaders = 1 << n.saturating_sub(k).min(12);
+    Ok(Decoded::over(front(lent.codewords, words.len()), front(lent.counts, words.len()), front(lent.work, leaders)))
 }
 
 /// The extended Golay codeword of a message of 12 places; its places 0 to 11 are checks, 12 to 23 the message. Cause 7.
@@ -164,11 +219,11 @@ pub fn golay_encode(message: u32) -> Result<u32, Refusal> {
     Ok(word)
 }
 
-/// The Golay codeword within three places of a word of 24, and its distance; a far word itself, and [`FAR`]. Cause 7.
-pub fn golay_decode(received: u32) -> Result<(u32, u8), Refusal> {
+/// The Golay codeword within three places of a word of 24, or far. Cause 7.
+pub fn golay_decode(received: u32) -> Result<Outcome<u32>, Refusal> {
     let (mut word, mut count) = (0, 0);
     told(|value| unsafe { raw::relay_golay_decode(received, &mut word, &mut count, value) })?;
-    Ok((word, count))
+    Ok(Outcome::told(word, count))
 }
 
 /// The message of a Golay codeword. Causes 7 and 10.
@@ -178,29 +233,39 @@ pub fn golay_message(codeword: u32) -> Result<u32, Refusal> {
     Ok(message)
 }
 
-/// The check byte of 64 data bits in the (72,64) code.
-pub fn hsiao_encode(data: u64) -> u8 {
-    unsafe { raw::relay_hsiao_encode(data) }
+/// The codeword of 64 data bits in the (72,64) code.
+pub fn hsiao_encode(data: u64) -> HsiaoWord {
+    HsiaoWord { check: unsafe { raw::relay_hsiao_encode(data) }, data }
 }
 
-/// The (72,64) codeword within one place of the word of this check byte and data, and its distance; a far word itself, and [`FAR`].
-pub fn hsiao_decode(mut check: u8, mut data: u64) -> (u8, u64, u8) {
-    let count = unsafe { raw::relay_hsiao_decode(&mut check, &mut data) };
-    (check, data, count)
+/// The (72,64) codeword within one place of the word, or far.
+pub fn hsiao_decode(received: HsiaoWord) -> Outcome<HsiaoWord> {
+    let mut word = received;
+    let count = unsafe { raw::relay_hsiao_decode(&mut word.check, &mut word.data) };
+    Outcome::told(word, count)
 }
 
 /// The data of a (72,64) codeword. Cause 10.
-pub fn hsiao_message(check: u8, data: u64) -> Result<u64, Refusal> {
+pub fn hsiao_message(codeword: HsiaoWord) -> Result<u64, Refusal> {
     let mut message = 0;
-    told(|value| unsafe { raw::relay_hsiao_message(check, data, &mut message, value) })?;
+    told(|value| unsafe { raw::relay_hsiao_message(codeword.check, codeword.data, &mut message, value) })?;
     Ok(message)
 }
 
-/// What the program `decode_sheet` prints for the bytes of a code sheet, written to the front of `out`; nothing is written where that is
-/// shorter than [`MAX_OUTPUT`].
-pub fn run<'a>(sheet: &[u8], out: &'a mut [u8]) -> Option<&'a [u8]> {
-    match unsafe { raw::relay_run(sheet.as_ptr(), sheet.len(), out.as_mut_ptr(), out.len()) } {
-        0 => None,
-        length => out.get(..length),
+/// What the program `decode_sheet` prints for the bytes of a code sheet, written to the front of `out`; the rest keeps its values. A
+/// refused sheet, causes 1 to 7 and 11 to 13, is an error; its one line, "refused NUMBER VALUE", is written too.
+pub fn run<'a>(sheet: &[u8], out: &'a mut [u8; MAX_OUTPUT]) -> Result<&'a [u8], Refusal> {
+    let length = unsafe { raw::relay_run(sheet.as_ptr(), sheet.len(), out.as_mut_ptr(), out.len()) };
+    let printed = front(&out[..], length);
+    match refused(printed) {
+        Some((number, value)) => Err(Refusal::from_told(number, value)),
+        None => Ok(printed),
     }
+}
+
+/// Number and value of the one line of a refused sheet.
+fn refused(printed: &[u8]) -> Option<(u32, usize)> {
+    let line = printed.strip_prefix(b"refused ")?.strip_suffix(b"\n")?;
+    let (number, value) = core::str::from_utf8(line).ok()?.split_once(' ')?;
+    Some((number.parse().ok()?, value.parse().ok()?))
 }

@@ -1,12 +1,16 @@
-//! The declarations of `bindings/relaymarten.h`: pointers, lengths, and numbers for answers.
+//! The declarations of `bindings/relaymarten.h`, which says what a caller keeps to: pointers, lengths, and numbers for answers.
+//! `bindings/check` compares them with the library.
 #![allow(clippy::missing_safety_doc)]
+
+use crate::{MAX_CHECKS, MAX_ROWS, WEIGHTS};
 
 #[rustfmt::skip]
 #[link(name = "relaymarten", kind = "static")]
 extern "C" {
+    pub fn relay_version() -> u32;
     pub fn relay_describe(
-        n: u32, k: u32, rows: *const u32, rows_len: usize, reduced: *mut [u32; 16], checks: *mut [u32; 12],
-        weight_counts: *mut [u32; 33], dmin: *mut u32, lightest: *mut u32, value: *mut usize,
+        n: u32, k: u32, rows: *const u32, rows_len: usize, reduced: *mut [u32; MAX_ROWS], checks: *mut [u32; MAX_CHECKS],
+        weight_counts: *mut [u32; WEIGHTS], dmin: *mut u32, lightest: *mut u32, value: *mut usize,
     ) -> u32;
     pub fn relay_encode(
         n: u32, k: u32, rows: *const u32, rows_len: usize, messages: *const u32, messages_len: usize,

@@ -1,7 +1,9 @@
-use std::fmt;
+use core::fmt;
 
-/// Why a call was refused: the first cause that applies. Where a cause names a row, a word or a syndrome, that is its value.
-#[derive(Clone, Copy, Debug, PartialEq, Eq)]
+/// Why a call was refused: the first cause that applies. Where a cause names a row, a word, a syndrome or a byte, that is its value.
+/// Later versions may have more cases; [`number`](Refusal::number) and [`value`](Refusal::value) are those of the specification in each.
+#[derive(Clone, Copy, Debug, PartialEq, Eq, Hash)]
+#[non_exhaustive]
 pub enum Refusal {
     /// 1: n, k or n - k is out of range.
     OutOfRange,
@@ -25,6 +27,10 @@ pub enum Refusal {
     NoCodeword(usize),
     /// 11: a syndrome has no leader; the smallest such syndrome. It is proved that none arises.
     NoLeader(usize),
+    /// 12: a sheet is cut, too long, or a field has a wrong length; the byte.
+    SheetLayout(usize),
+    /// 13: a tag of a sheet is unknown, does not rise or is missing; the byte.
+    SheetTag(usize),
     /// A number, with the value beside it, that this version does not know. It is proved that none arises.
     Other(u32, usize),
 }
@@ -43,6 +49,8 @@ impl Refusal {
             (9, 0) => Refusal::ShortWork,
             (10, word) => Refusal::NoCodeword(word),
             (11, syndrome) => Refusal::NoLeader(syndrome),
+            (12, byte) => Refusal::SheetLayout(byte),
+            (13, byte) => Refusal::SheetTag(byte),
             _ => Refusal::Other(number, value),
         }
     }
@@ -61,6 +69,8 @@ impl Refusal {
             Refusal::ShortWork => 9,
             Refusal::NoCodeword(_) => 10,
             Refusal::NoLeader(_) => 11,
+            Refusal::SheetLayout(_) => 12,
+            Refusal::SheetTag(_) => 13,
             Refusal::Other(number, _) => number,
         }
     }
@@ -73,29 +83,43 @@ impl Refusal {
             | Refusal::WordOutside(v)
             | Refusal::NoCodeword(v)
             | Refusal::NoLeader(v)
+            | Refusal::SheetLayout(v)
+            | Refusal::SheetTag(v)
             | Refusal::Other(_, v) => v,
-            _ => 0,
+            Refusal::OutOfRange
+            | Refusal::RowCount
+            | Refusal::RadiusTooLarge
+            | Refusal::TooManyWords
+            | Refusal::ShortOutput
+            | Refusal::ShortWork => 0,
         }
     }
 }
 
+/// In the words of docs/REFUSALS.md.
 impl fmt::Display for Refusal {
     fn fmt(&self, f: &mut fmt::Formatter) -> fmt::Result {
         match self {
-            Refusal::OutOfRange => write!(f, "n, k or n - k is out of range"),
-            Refusal::RowCount => write!(f, "the matrix is not exactly k rows long"),
+            Refusal::OutOfRange => write!(f, "n, k or n - k is out of range: n is 2 to 28, k is 1 to 16, n - k is 1 to 12"),
+            Refusal::RowCount => write!(f, "the matrix has not exactly k rows"),
             Refusal::RowOutside(i) => write!(f, "row {i} has a one at place n or beyond"),
-            Refusal::Dependent(i) => write!(f, "row {i} is a sum of earlier rows"),
-            Refusal::RadiusTooLarge => write!(f, "the radius is too large for the minimum distance"),
-            Refusal::TooManyWords => write!(f, "more than {} words", crate::MAX_WORDS),
-            Refusal::WordOutside(i) => write!(f, "word {i} has a one outside its places"),
+            Refusal::Dependent(i) => write!(f, "row {i} is a sum of earlier rows (a zero row is the empty sum)"),
+            Refusal::RadiusTooLarge => write!(f, "the radius r is too large: 2 r + 1 is above the minimum distance"),
+            Refusal::TooManyWords => write!(f, "there are more than 512 words"),
+            Refusal::WordOutside(i) => write!(f, "word {i} has a one outside its places (n for a word, k for a message)"),
             Refusal::ShortOutput => write!(f, "an output list is shorter than the words"),
             Refusal::ShortWork => write!(f, "the working list is shorter than 2^(n - k)"),
-            Refusal::NoCodeword(i) => write!(f, "word {i} is no codeword"),
-            Refusal::NoLeader(s) => write!(f, "syndrome {s} has no leader"),
+            Refusal::NoCodeword(i) => write!(f, "word {i} is to be read back and is no codeword"),
+            Refusal::NoLeader(s) => write!(f, "syndrome {s} has no coset leader after the build"),
+            Refusal::SheetLayout(at) => {
+                write!(f, "the sheet is cut or longer than 4,096 bytes, or the field at byte {at} has a wrong length")
+            }
+            Refusal::SheetTag(at) => {
+                write!(f, "the tag at byte {at} is unknown or does not rise, or one is missing at the end")
+            }
             Refusal::Other(number, value) => write!(f, "cause {number} with value {value}"),
         }
     }
 }
 
-impl std::error::Error for Refusal {}
+impl core::error::Error for Refusal {}

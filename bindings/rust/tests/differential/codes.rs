@@ -1,8 +1,8 @@
 //! Any generator matrix.
 use crate::inputs::{how_many, matrix, received, slots, spoil, Matrix};
 use crate::random::Random;
-use crate::{cause, causes, plain, told, Cause};
-use relaymarten::{raw, Lent, Reading};
+use crate::{cause, causes, outcome, plain, told, Cause};
+use relaymarten::{raw, Lent, Outcome, Reading, Refusal, MAX_CHECKS, MAX_LEADERS, MAX_ROWS, WEIGHTS};
 use std::collections::BTreeSet;
 
 /// Mostly short codes, so that many of them can be walked.
@@ -58,7 +58,7 @@ fn refused_description() {
     let mut r = Random::of("refused_description");
     for _ in 0..500 {
         let m = matrix(&mut r, 12);
-        let (mut reduced, mut checks, mut counts) = ([7; 16], [7; 12], [7; 33]);
+        let (mut reduced, mut checks, mut counts) = ([7; MAX_ROWS], [7; MAX_CHECKS], [7; WEIGHTS]);
         let (mut dmin, mut lightest, mut value) = (7, 7, 7);
         let (rows, lists) = ((m.rows.as_ptr(), m.rows.len()), (&mut reduced, &mut checks, &mut counts));
         let number = unsafe {
@@ -85,7 +85,7 @@ fn success_has_value_0() {
         assert_eq!(raw::relay_encode(6, 3, rows, 3, [4].as_ptr(), 1, to, 1, a), 0);
         assert_eq!(raw::relay_message(6, 3, rows, 3, [0x1C].as_ptr(), 1, to, 1, b), 0);
         let (from, counts, work) = (words.as_ptr(), counts.as_mut_ptr(), work.as_mut_ptr());
-        assert_eq!(raw::relay_decode(6, 3, rows, 3, false, u32::MAX, from, 1, to, 1, counts, 1, work, 8, c), 0);
+        assert_eq!(raw::relay_decode(6, 3, rows, 3, 0, u32::MAX, from, 1, to, 1, counts, 1, work, 8, c), 0);
     }
     assert_eq!((out, counts, values), ([0x1C], [1], [0; 3]));
 }
@@ -136,7 +136,17 @@ struct Seen {
     nearest: BTreeSet<u8>,
 }
 
-/// One decode call: the answer and every slot of the three lists.
+/// Each outcome of a batch, in order and by its place, is that of the slots; the leaders are the front of the working list.
+fn compare_outcomes(batch: relaymarten::Decoded, slots: &[(u32, u8)], leaders: &[u32]) {
+    let wanted: Vec<Outcome<u32>> = slots.iter().map(|&(word, count)| outcome(word, count)).collect();
+    assert_eq!(batch.iter().collect::<Vec<_>>(), wanted);
+    assert_eq!(batch.into_iter().size_hint(), (wanted.len(), Some(wanted.len())));
+    assert_eq!((0..wanted.len()).map(|i| batch.get(i).unwrap()).collect::<Vec<_>>(), wanted);
+    assert_eq!((batch.len(), batch.is_empty(), batch.get(wanted.len())), (wanted.len(), wanted.is_empty(), None));
+    assert_eq!(batch.leaders(), leaders);
+}
+
+/// One decode call: the answer, every slot of the three lists, and the outcomes.
 fn decode_once(r: &mut Random, m: &Matrix, words: &[u32], seen: &mut Seen) {
     let radius = if r.one_in(2) { None } else { Some([0, 1, 1, 2, 3, u32::MAX / 2, u32::MAX][r.below(7)]) };
     let leaders = 1 << m.n.saturating_sub(m.k).min(12);
@@ -145,8 +155,13 @@ fn decode_once(r: &mut Random, m: &Matrix, words: &[u32], seen: &mut Seen) {
     let (mut out1, mut counts1, mut work1) = (out.clone(), counts.clone(), work.clone());
     let (mut out2, mut counts2, mut work2) = (out, counts, work);
     let lent = Lent { codewords: &mut out1, counts: &mut counts1, work: &mut work1 };
-    let ours = told(relaymarten::decode(m.n, m.k, &m.rows, radius.map_or(Reading::Nearest, Reading::Within), words, lent));
-    let theirs = plain::decode(m.n, m.k, &m.rows, radius, words, &mut out2, &mut counts2, &mut work2).map(|_| ());
+    let to = plain::Lists { out: &mut out2, counts: &mut counts2, work: &mut work2 };
+    let theirs = plain::decode(m.n, m.k, &m.rows, radius, words, to).map(|_| ());
+    let answer = relaymarten::decode(m.n, m.k, &m.rows, radius.map_or(Reading::Nearest, Reading::Within), words, lent);
+    let ours = told(answer.map(|batch| {
+        let slots: Vec<(u32, u8)> = out2.iter().copied().zip(counts2.iter().copied()).take(words.len()).collect();
+        compare_outcomes(batch, &slots, &work2[..1 << (m.n - m.k)]);
+    }));
     assert_eq!(ours, theirs, "{m:?} {radius:?} {words:?}");
     assert_eq!((&out1, &counts1, &work1), (&out2, &counts2, &work2), "{m:?} {radius:?} {words:?}");
     seen.causes.insert(cause(&ours));
@@ -185,4 +200,70 @@ fn decode_long() {
     let words = received(&mut r, &m);
     decode_once(&mut r, &m, &words, &mut seen);
     assert!(seen.causes.contains(&(0, false)));
+}
+
+/// What a call with this `within` answers and leaves in the lists.
+fn decode_raw(m: &Matrix, within: u32, radius: u32, words: &[u32]) -> (u32, usize, Vec<u32>, Vec<u8>, Vec<u32>) {
+    let (mut out, mut counts, mut work) = (vec![7; words.len() + 1], vec![7; words.len() + 1], vec![7; MAX_LEADERS]);
+    let (rows, from, mut value) = ((m.rows.as_ptr(), m.rows.len()), (words.as_ptr(), words.len()), 7);
+    let to = (out.as_mut_ptr(), counts.as_mut_ptr(), work.as_mut_ptr());
+    let number = unsafe {
+        raw::relay_decode(
+            m.n,
+            m.k,
+            rows.0,
+            rows.1,
+            within,
+            radius,
+            from.0,
+            from.1,
+            to.0,
+            from.1 + 1,
+            to.1,
+            from.1 + 1,
+            to.2,
+            MAX_LEADERS,
+            &mut value,
+        )
+    };
+    (number, value, out, counts, work)
+}
+
+/// Every number but 0 means within, one whose low byte is 0 too.
+#[test]
+fn every_number_as_within() {
+    let mut r = Random::of("every_number_as_within");
+    let mut differ = 0;
+    for _ in 0..300 {
+        let m = matrix(&mut r, 12);
+        let words = received(&mut r, &m);
+        let radius = r.below(3) as u32;
+        let one = decode_raw(&m, 1, radius, &words);
+        for within in [2, 3, 255, 256, 65536, 1 << 31, u32::MAX, 1 | r.next() as u32] {
+            assert_eq!(decode_raw(&m, within, radius, &words), one, "{within} {m:?} {radius} {words:?}");
+        }
+        differ += usize::from(decode_raw(&m, 0, radius, &words) != one);
+    }
+    assert!(differ > 0);
+}
+
+/// A batch with a clean, a mended and a far word: the far one has no word.
+#[test]
+fn far_word_has_no_answer() {
+    let (mut words, mut counts, mut work) = ([7; 3], [7; 3], [7; 8]);
+    let lent = Lent { codewords: &mut words, counts: &mut counts, work: &mut work };
+    let batch = relaymarten::decode(6, 3, &[0x31, 0x2A, 0x1C], Reading::Within(1), &[0x31, 0x1F, 0x23], lent).unwrap();
+    let outcomes: Vec<_> = batch.into_iter().collect();
+    assert_eq!(outcomes, [Outcome::Clean(0x31), Outcome::Mended(0x1B, 1), Outcome::Far]);
+    assert_eq!(outcomes.iter().map(|o| o.codeword()).collect::<Vec<_>>(), [Some(0x31), Some(0x1B), None]);
+    assert_eq!(outcomes.iter().map(Outcome::count).collect::<Vec<_>>(), [Some(0), Some(1), None]);
+    assert_eq!((words, counts), ([0x31, 0x1B, 0x23], [0, 1, 255]));
+}
+
+/// A refusal is an error with a text.
+#[test]
+fn refusal_as_error() {
+    let error: Box<dyn std::error::Error> = Box::new(relaymarten::describe(6, 3, &[1, 2, 3]).unwrap_err());
+    assert_eq!(error.to_string(), "row 2 is a sum of earlier rows (a zero row is the empty sum)");
+    assert_eq!(error.downcast_ref(), Some(&Refusal::Dependent(2)));
 }

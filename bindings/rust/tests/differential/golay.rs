@@ -1,7 +1,7 @@
 //! The extended Golay code.
 use crate::random::Random;
-use crate::{plain, told};
-use relaymarten::{golay_decode, golay_encode, golay_message, raw};
+use crate::{outcome, plain, told};
+use relaymarten::{golay_decode, golay_encode, golay_message, raw, Outcome};
 use std::collections::BTreeSet;
 
 #[test]
@@ -9,8 +9,16 @@ fn every_message() {
     for (u, c) in (0..).zip(plain::golay_codewords()) {
         assert_eq!(golay_encode(u), Ok(c));
         assert_eq!(golay_message(c), Ok(u));
-        assert_eq!(golay_decode(c), Ok((c, 0)));
+        assert_eq!(golay_decode(c), Ok(Outcome::Clean(c)));
     }
+}
+
+/// The slots that a decode writes.
+fn decode_raw(w: u32) -> (u32, u8) {
+    let (mut word, mut count, mut value) = (7, 7, 7);
+    assert_eq!(unsafe { raw::relay_golay_decode(w, &mut word, &mut count, &mut value) }, 0, "{w:06X}");
+    assert_eq!(value, 0, "{w:06X}");
+    (word, count)
 }
 
 /// Any words, and codewords with up to five changed places.
@@ -25,7 +33,8 @@ fn words() {
             _ => r.word(24),
         };
         let theirs = plain::golay_decoded(&codewords, w);
-        assert_eq!(golay_decode(w), Ok(theirs), "{w:06X}");
+        assert_eq!(decode_raw(w), theirs, "{w:06X}");
+        assert_eq!(golay_decode(w), Ok(outcome(theirs.0, theirs.1)), "{w:06X}");
         let message = codewords.iter().position(|&c| c == w).map(|u| u as u32);
         assert_eq!(told(golay_message(w)), message.ok_or((10, 0)), "{w:06X}");
         seen.insert(theirs.1);

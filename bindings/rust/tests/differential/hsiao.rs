@@ -1,16 +1,24 @@
 //! The (72,64) code.
 use crate::random::Random;
-use crate::{plain, told};
-use relaymarten::{hsiao_decode, hsiao_encode, hsiao_message, raw};
+use crate::{outcome, plain, told};
+use relaymarten::{hsiao_decode, hsiao_encode, hsiao_message, raw, HsiaoWord};
 use std::collections::BTreeSet;
+
+/// The word and count that a decode leaves.
+fn decode_raw(mut check: u8, mut data: u64) -> (u8, u64, u8) {
+    let count = unsafe { raw::relay_hsiao_decode(&mut check, &mut data) };
+    (check, data, count)
+}
 
 /// One word: its decoding and its message.
 fn compare(columns: &[u8], check: u8, data: u64) -> u8 {
     let theirs = plain::hsiao_decoded(columns, check, data);
-    assert_eq!(hsiao_decode(check, data), theirs, "{check:02X} {data:016X}");
+    assert_eq!(decode_raw(check, data), theirs, "{check:02X} {data:016X}");
+    let wanted = outcome(HsiaoWord { check: theirs.0, data: theirs.1 }, theirs.2);
+    assert_eq!(hsiao_decode(HsiaoWord { check, data }), wanted, "{check:02X} {data:016X}");
     let codeword = plain::hsiao_syndrome(columns, check, data) == 0;
     let message = if codeword { Ok(data) } else { Err((10, 0)) };
-    assert_eq!(told(hsiao_message(check, data)), message, "{check:02X} {data:016X}");
+    assert_eq!(told(hsiao_message(HsiaoWord { check, data })), message, "{check:02X} {data:016X}");
     theirs.2
 }
 
@@ -22,8 +30,8 @@ fn words() {
     let mut seen = BTreeSet::new();
     for i in 0..60000 {
         let mut data = r.next();
-        let mut check = hsiao_encode(data);
-        assert_eq!(check, plain::hsiao_syndrome(&columns, 0, data), "{data:016X}");
+        let mut check = plain::hsiao_syndrome(&columns, 0, data);
+        assert_eq!(hsiao_encode(data), HsiaoWord { check, data }, "{data:016X}");
         for _ in 0..i % 5 {
             match r.below(72) {
                 p if p < 8 => check ^= 1 << p,

@@ -1,7 +1,8 @@
 //! The library, called through this crate, against the plain implementation of `plain`: on random inputs, valid and damaged, every answer
 //! with its value and every slot of every list. Each test demands that every cause that can arise has arisen, with its values.
 //!
-//! The inputs are the same at each run. RELAY_SEED gives others; a failing test prints the seed it had.
+//! The inputs are the same at each run. RELAY_SEED=NUMBER, decimal and below 2^64, gives others, each number its own; an empty one is as
+//! none, and anything else fails every test. A failing test prints the seed it had.
 mod codes;
 mod golay;
 mod hsiao;
@@ -10,12 +11,26 @@ mod plain;
 mod random;
 mod sheets;
 
-use relaymarten::Refusal;
+use relaymarten::{Outcome, Refusal};
 use std::collections::BTreeSet;
 
 /// A result with its refusal as number and value, as `plain` has it.
 fn told<T>(result: Result<T, Refusal>) -> Result<T, (u32, usize)> {
     result.map_err(|e| (e.number(), e.value()))
+}
+
+/// The outcome of a word and its count, as `plain` has them.
+fn outcome<W>(word: W, count: u8) -> Outcome<W> {
+    match count {
+        0 => Outcome::Clean(word),
+        255 => Outcome::Far,
+        _ => Outcome::Mended(word, count),
+    }
+}
+
+#[test]
+fn version() {
+    assert_eq!(relaymarten::version(), relaymarten::VERSION);
 }
 
 /// The number of an answer, and whether its value is above 0.

@@ -154,30 +154,28 @@ pub fn message(n: u32, k: u32, rows: &[u32], words: &[u32], out: &mut [u32]) -> 
     Ok(())
 }
 
-pub fn decode(
-    n: u32,
-    k: u32,
-    rows: &[u32],
-    radius: Option<u32>,
-    words: &[u32],
-    out: &mut [u32],
-    counts: &mut [u8],
-    work: &mut [u32],
-) -> Result<Code, Refused> {
+/// The lists that a decode writes.
+pub struct Lists<'a> {
+    pub out: &'a mut [u32],
+    pub counts: &'a mut [u8],
+    pub work: &'a mut [u32],
+}
+
+pub fn decode(n: u32, k: u32, rows: &[u32], radius: Option<u32>, words: &[u32], to: Lists) -> Result<Code, Refused> {
     let code = accept(n, k, rows)?;
     if let Some(r) = radius {
         if 2 * r as u64 + 1 > code.dmin() as u64 {
             return refused(5, 0);
         }
     }
-    lists(words, n, out.len().min(counts.len()))?;
-    if work.len() < 1 << (n - k) {
+    lists(words, n, to.out.len().min(to.counts.len()))?;
+    if to.work.len() < 1 << (n - k) {
         return refused(9, 0);
     }
     for (i, &w) in words.iter().enumerate() {
-        (out[i], counts[i]) = code.decoded(radius, w);
+        (to.out[i], to.counts[i]) = code.decoded(radius, w);
     }
-    for (slot, leader) in work.iter_mut().zip(code.leaders()) {
+    for (slot, leader) in to.work.iter_mut().zip(code.leaders()) {
         *slot = leader;
     }
     Ok(code)
@@ -277,12 +275,14 @@ fn read_sheet(sheet: &[u8]) -> Result<Sheet, Refused> {
     })
 }
 
-fn lines(sheet: &[u8]) -> Result<String, Refused> {
+/// What the run prints for a sheet that is not refused.
+pub fn lines(sheet: &[u8]) -> Result<String, Refused> {
     let s = read_sheet(sheet)?;
     let mut out = vec![0; MAX_WORDS];
     let mut counts = vec![0; MAX_WORDS];
     let mut work = vec![0; 4096];
-    let code = decode(s.n, s.k, &s.rows, s.radius, &s.words, &mut out, &mut counts, &mut work)?;
+    let to = Lists { out: &mut out, counts: &mut counts, work: &mut work };
+    let code = decode(s.n, s.k, &s.rows, s.radius, &s.words, to)?;
     let d = code.dmin();
     let mut text = format!("{} {} {} {}\n", s.n, s.k, d, (d - 1) / 2);
     for i in 0..s.words.len() {

@@ -1,8 +1,8 @@
 //! The run over a code sheet.
 use crate::inputs::{matrix, received};
 use crate::random::Random;
-use crate::{causes, plain, Cause};
-use relaymarten::{run, MAX_OUTPUT};
+use crate::{cause, causes, plain, told};
+use relaymarten::{raw, run, MAX_OUTPUT};
 use std::collections::BTreeSet;
 
 type Field = (u8, Vec<u8>);
@@ -69,25 +69,30 @@ fn sheet(r: &mut Random) -> Vec<u8> {
     sheet
 }
 
-/// The cause that an output tells.
-fn told(output: &str) -> Cause {
-    let mut numbers = output.strip_prefix("refused ").unwrap_or("0 0\n").trim_end().split(' ').map(|x| x.parse::<u32>().unwrap());
-    (numbers.next().unwrap(), numbers.next().unwrap() > 0)
+/// The length that a run answers, with the list that it was lent.
+fn run_raw(sheet: &[u8], out: &mut [u8]) -> usize {
+    unsafe { raw::relay_run(sheet.as_ptr(), sheet.len(), out.as_mut_ptr(), out.len()) }
 }
 
+/// The bytes and every slot of the list; then, through the wrapper, the lines or the refusal's number and value.
 #[test]
 fn output() {
     let mut r = Random::of("sheets");
     let mut seen = BTreeSet::new();
+    let mut room = [0; MAX_OUTPUT];
     for _ in 0..8000 {
         let s = sheet(&mut r);
         let before: Vec<u8> = (0..MAX_OUTPUT + r.below(3)).map(|i| i as u8 ^ 0xA5).collect();
         let mut out = before.clone();
-        let ours = run(&s, &mut out).unwrap().to_vec();
-        let theirs = plain::output(&s);
-        assert_eq!(String::from_utf8_lossy(&ours), theirs, "{s:?}");
-        assert_eq!(out[ours.len()..], before[ours.len()..], "{s:?}");
-        seen.insert(told(&theirs));
+        let length = run_raw(&s, &mut out);
+        assert_eq!(String::from_utf8_lossy(&out[..length]), plain::output(&s), "{s:?}");
+        assert_eq!(out[length..], before[length..], "{s:?}");
+
+        room.copy_from_slice(&before[..MAX_OUTPUT]);
+        let ours = told(run(&s, &mut room).map(|printed| String::from_utf8_lossy(printed).into_owned()));
+        assert_eq!(ours, plain::lines(&s), "{s:?}");
+        assert_eq!(room[..], out[..MAX_OUTPUT], "{s:?}");
+        seen.insert(cause(&ours));
     }
     assert_eq!(seen, causes(&[0, 1, 2, 5, 6], &[3, 4, 7, 12, 13]));
 }
@@ -99,7 +104,7 @@ fn longest_output() {
     let rows: Vec<u32> = (0..16).map(|i| 1 << i | r.word(28) & 0xFFF0000).collect();
     let words: Vec<u32> = (0..512).map(|_| r.word(28)).collect();
     let s = joined(vec![(1, vec![28]), (2, vec![16]), (3, bytes(&rows)), (5, bytes(&words))]);
-    let mut out = vec![0; MAX_OUTPUT];
+    let mut out = [0; MAX_OUTPUT];
     assert_eq!(String::from_utf8_lossy(run(&s, &mut out).unwrap()), plain::output(&s));
 }
 
@@ -110,7 +115,7 @@ fn short_room() {
     for room in [0, 1, 100, MAX_OUTPUT - 1] {
         let s = sheet(&mut r);
         let mut out = vec![0xA5; room];
-        assert_eq!(run(&s, &mut out), None);
+        assert_eq!(run_raw(&s, &mut out), 0);
         assert_eq!(out, vec![0xA5; room]);
     }
 }
