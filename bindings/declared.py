@@ -1,5 +1,5 @@
-"""What the library, the header and the Rust crate declare, read from their texts into the same forms. A text that has another form than is
-known here is Unreadable: nothing is passed over."""
+"""What the library, the header and the Rust crate declare, read from their texts into the same forms. A text that has another form
+than is known here is Unreadable: nothing is passed over."""
 import re
 from typing import NamedTuple, Optional
 

@@ -8,16 +8,16 @@
  *
  * What a caller keeps to; the proofs rest on it, and a call cannot test it. A list passes as pointer and length, in entries.
  *  - No pointer is null, also where a length is 0.
- *  - Each pointer is aligned for its type, and valid for the whole length: to be read, and to be written where it is not const. An array
- *    parameter has the size that stands in its brackets, or more.
+ *  - Each pointer is aligned for its type, and valid for the whole length: to be read, and to be written where it is not const. An
+ *    array parameter has the size that stands in its brackets, or more.
  *  - What a call writes overlaps nothing else that the call is given, and no other thread reads or writes it during the call. Lists
  *    that are only read may overlap, and be shared.
  * Any number is allowed: what is out of range is refused. Lists need not be set to 0 before a call.
  *
- * What a call keeps to. Nothing is kept from one call to the next: the library has no variables, so calls may run in several threads at
- * once, each with its own lists, and in a signal handler. No call allocates, locks, waits or reads or writes a file; of the C library
- * memcpy and memset are used. Every call ends. Each states how much stack it takes, without the caller's lists; measured by
- * bindings/stack.c.
+ * What a call keeps to. The calls are reentrant: the library has no writable data and keeps nothing from one call to the next, so
+ * that several threads may call at once, each with its own lists. No call allocates, locks, waits or reads or writes a file; of
+ * the C library memcpy and memset are used. Every call ends. Each states how much stack it takes beside the caller's lists, as
+ * bindings/stack.c measures it.
  */
 #ifndef RELAYMARTEN_H
 #define RELAYMARTEN_H
@@ -51,10 +51,10 @@ enum {
     RELAY_FAR = 255           /* the count of a word that is far */
 };
 
-/* Numbers. A call that may refuse returns 0, or the number of the first cause that refuses it, and writes at *value the value beside
- * it: the first such row or word, from 0, where the cause is about one, else 0. A call states its causes; they are tested in rising
- * order. A refused call on lists leaves every list as it was (but see RELAY_NO_LEADER). Later versions may have more numbers.
- * docs/REFUSALS.md says of each what to do. */
+/* Numbers. A call that may refuse returns 0, or the number of the first cause that refuses it, and writes at *value the value
+ * beside it: the first such row or word, from 0, where the cause is about one, else 0. A call states its causes; they are tested
+ * in rising order. A refused call on lists leaves every list as it was (11 apart: see relay_decode). Later versions may have more
+ * numbers. docs/REFUSALS.md says of each what to do. */
 enum {
     RELAY_DONE = 0,
     RELAY_OUT_OF_RANGE = 1,     /* n, k or n - k is out of range */
@@ -73,8 +73,8 @@ enum {
 };
 
 /* What the code of a matrix is. Causes 1 to 4.
- * Written: the k reduced rows, the n - k parity-check rows and how many codewords there are of each weight 0 to n, each list 0 after
- * these; the minimum distance; and a codeword of that weight. On a refusal all of them become 0.
+ * Written: the k reduced rows, the n - k parity-check rows and how many codewords there are of each weight 0 to n, each list 0
+ * after these; the minimum distance; and a codeword of that weight. On a refusal all of them become 0.
  * Stack: about 4 kB. */
 uint32_t relay_describe(uint32_t n, uint32_t k, const uint32_t *rows, size_t rows_len,
                         uint32_t reduced[RELAY_MAX_ROWS], uint32_t checks[RELAY_MAX_CHECKS], uint32_t weight_counts[RELAY_WEIGHTS],
@@ -87,23 +87,23 @@ uint32_t relay_encode(uint32_t n, uint32_t k, const uint32_t *rows, size_t rows_
                       const uint32_t *messages, size_t messages_len,
                       uint32_t *out, size_t out_len, size_t *value);
 
-/* The messages of codewords. Causes 1 to 4, 6 to 8 and 10.
- * One word that is no codeword refuses the whole list under 10: after relay_decode within a radius, leave out the words whose count is
- * RELAY_FAR first.
+/* The messages of codewords. Causes 1 to 4, 6 to 8 and 10. One word that is no codeword refuses the whole list under 10: after
+ * relay_decode within a radius, leave out the words whose count is RELAY_FAR first.
  * Written: slot i of `out` becomes the message of codeword i; later slots keep their values.
  * Stack: about 3 kB. */
 uint32_t relay_message(uint32_t n, uint32_t k, const uint32_t *rows, size_t rows_len,
                        const uint32_t *words, size_t words_len,
                        uint32_t *out, size_t out_len, size_t *value);
 
-/* Decodes received words: as the nearest codewords where `within` is 0 (the radius is not looked at); where it is anything else, as the
- * codewords at a distance of at most `radius`. Causes 1 to 4, 5 where `within` is not 0, 6 to 9 and 11; cause 8 asks both output lists.
- * Written: slot i of `out` becomes the codeword of word i and slot i of `counts` its distance; a far word leaves the received word,
- * which is no answer, and RELAY_FAR. The first 2^(n - k) entries of `work` become the coset leaders by syndrome. Later slots keep their
- * values. Under 11 `work` holds the leaders, and 2^32 - 1 where there is none.
- * Time: most of it goes into the leaders, which are built in each call, and depends on the matrix; more words cost little. 512 words
- * took 3 us with a (7,4) code, 45 to 110 us with random (28,16) rows, and 0.15 s with (28,16) rows that leave twelve places 0 in
- * every codeword, the slowest found (AMD EPYC, 2.6 GHz).
+/* Decodes received words: as the nearest codewords where `within` is 0 (the radius is not looked at); where it is anything else,
+ * as the codewords at a distance of at most `radius`. Causes 1 to 4, 5 where `within` is not 0, 6 to 9 and 11; cause 8 asks both
+ * output lists.
+ * Written: slot i of `out` becomes the codeword of word i and slot i of `counts` its distance; a far word leaves the received
+ * word, which is no answer, and RELAY_FAR. The first 2^(n - k) entries of `work` become the coset leaders by syndrome. Later
+ * slots keep their values. Under 11 `work` holds the leaders, and 2^32 - 1 where there is none.
+ * Time: most of it goes into the leaders, which are built in each call, and depends on the matrix; more words cost little. 512
+ * words took 3 us with a (7,4) code, 45 to 110 us with random (28,16) rows, and 0.15 s with (28,16) rows that leave twelve places
+ * 0 in every codeword, the slowest found (AMD EPYC, 2.6 GHz).
  * Stack: about 5 kB. */
 uint32_t relay_decode(uint32_t n, uint32_t k, const uint32_t *rows, size_t rows_len,
                       uint32_t within, uint32_t radius,
@@ -115,7 +115,8 @@ uint32_t relay_decode(uint32_t n, uint32_t k, const uint32_t *rows, size_t rows_
  * Encode: cause 7, a message with a one past place 11. Stack: less than 1 kB. */
 uint32_t relay_golay_encode(uint32_t message, uint32_t *word, size_t *value);
 
-/* Decode at radius 3: cause 7, a word with a one past place 23. A far word is written unchanged, which is no answer, with RELAY_FAR.
+/* Decode at radius 3: cause 7, a word with a one past place 23. A far word is written unchanged, which is no answer, with
+ * RELAY_FAR.
  * Stack: less than 1 kB. */
 uint32_t relay_golay_decode(uint32_t received, uint32_t *word, uint8_t *count, size_t *value);
 
@@ -126,8 +127,8 @@ uint32_t relay_golay_message(uint32_t codeword, uint32_t *message, size_t *value
  * Stack: less than 1 kB. */
 uint8_t relay_hsiao_encode(uint64_t data);
 
-/* Decode at radius 1, in place: the word becomes the codeword and the count is returned; a far word stays as it is, which is no answer,
- * with RELAY_FAR. No word is refused. Stack: less than 1 kB. */
+/* Decode at radius 1, in place: the word becomes the codeword and the count is returned; a far word stays as it is, which is no
+ * answer, with RELAY_FAR. No word is refused. Stack: less than 1 kB. */
 uint8_t relay_hsiao_decode(uint8_t *check, uint64_t *data);
 
 /* Message: writes the data of a codeword; cause 10 for any other word, with 0 as its data and *value. Stack: less than 1 kB. */

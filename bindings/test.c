@@ -1,5 +1,5 @@
-/* The header against the library: version, names of the causes, texts, sizes, and every number as `within`. Valid C and C++; built and run
- * as both by bench/run. Prints each fact that does not hold; exit status 1 where there is one. */
+/* The header against the library: version, names of the causes, texts, sizes, and other numbers than 0 and 1 as `within`. Valid C
+ * and C++; built and run as both by bench/run. Prints each fact that does not hold; exit status 1 where there is one. */
 #include "relaymarten.h"
 #include <stdio.h>
 #include <string.h>
@@ -124,8 +124,8 @@ static void sizes(void)
     memset(reduced, 0xA5, sizeof reduced);
     memset(checks, 0xA5, sizeof checks);
     memset(weights, 0xA5, sizeof weights);
-    HOLDS(relay_describe(RELAY_MAX_PLACES, RELAY_MAX_ROWS, matrix, RELAY_MAX_ROWS, reduced, checks, weights, &dmin, &lightest, &value)
-          == RELAY_DONE);
+    HOLDS(relay_describe(RELAY_MAX_PLACES, RELAY_MAX_ROWS, matrix, RELAY_MAX_ROWS, reduced, checks, weights, &dmin, &lightest,
+                         &value) == RELAY_DONE);
     HOLDS(reduced[RELAY_MAX_ROWS - 1] != 0xA5A5A5A5 && reduced[RELAY_MAX_ROWS] == 0xA5A5A5A5);
     HOLDS(checks[RELAY_MAX_CHECKS - 1] != 0xA5A5A5A5 && checks[RELAY_MAX_CHECKS] == 0xA5A5A5A5);
     HOLDS(weights[RELAY_WEIGHTS - 1] == 0 && weights[RELAY_WEIGHTS] == 0xA5A5A5A5);

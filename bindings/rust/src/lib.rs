@@ -1,8 +1,9 @@
 //! Safe calls of Relaymarten: proved encoding and decoding of binary linear block codes.
 //!
-//! A word of n places is the number whose bit i is place i. A generator matrix is a list of k rows, each a word of n places; message
-//! place i selects row i. n is 2 to 28, k is 1 to 16, n - k is 1 to 12. Any other input is refused, by a [`Refusal`] that has the
-//! specification's number and value; no call panics, allocates or keeps anything, and calls may run in several threads at once.
+//! A word of n places is the number whose bit i is place i. A generator matrix is a list of k rows, each a word of n places;
+//! message place i selects row i. n is 2 to 28, k is 1 to 16, n - k is 1 to 12. Any other input is refused, by a [`Refusal`] that
+//! has the specification's number and value; no call panics, allocates or keeps anything, and calls may run in several threads at
+//! once.
 //!
 //! ```
 //! use relaymarten::{decode, encode, message, Lent, Outcome, Reading, Refusal};
@@ -32,10 +33,10 @@
 //! # Ok::<(), Refusal>(())
 //! ```
 //!
-//! The static library that `rt staticlib relaymarten` writes is linked: from `target/staticlib` of the repository, or from the folder that
-//! the environment variable `RELAYMARTEN_LIB_DIR` names when the crate is built. [`raw`] has its calls as `bindings/relaymarten.h` declares
-//! them. What the proofs ask of a caller there (pointers that are not null, aligned and valid for their length, and nothing written that
-//! overlaps anything else) is what Rust's references are.
+//! The static library that `rt staticlib relaymarten` writes is linked: from `target/staticlib` of the repository, or from the
+//! folder that the environment variable `RELAYMARTEN_LIB_DIR` names when the crate is built. [`raw`] has its calls as
+//! `bindings/relaymarten.h` declares them. What the proofs ask of a caller there (pointers that are not null, aligned and valid
+//! for their length, and nothing written that overlaps anything else) is what Rust's references are.
 
 #![no_std]
 #![warn(missing_docs)]
@@ -50,7 +51,8 @@ pub use refusal::Refusal;
 
 use outcome::front;
 
-/// The version of the library that this crate is written for: 10,000 times the major number, 100 times the minor one, and the patch.
+/// The version of the library that this crate is written for: 10,000 times the major number, 100 times the minor one, and the
+/// patch.
 pub const VERSION: u32 = 200;
 
 /// The most places of a word, n.
@@ -135,9 +137,9 @@ fn told(call: impl FnOnce(*mut usize) -> u32) -> Result<(), Refusal> {
     }
 }
 
-// SAFETY, for every call below: each pointer comes from a reference, with the length of its list, so that none is null, all are aligned
-// and valid; the mutable ones are those of different borrows or locals, so that nothing written overlaps anything else. No call keeps a
-// pointer.
+// SAFETY, for every call below: each pointer comes from a reference, with the length of its list, so that none is null, all are
+// aligned and valid; the mutable ones are those of different borrows or locals, so that nothing written overlaps anything else.
+// No call keeps a pointer.
 
 /// The version of the linked library, to be compared with [`VERSION`].
 pub fn version() -> u32 {
@@ -164,24 +166,24 @@ pub fn describe(n: u32, k: u32, rows: &[u32]) -> Result<Description, Refusal> {
     Ok(d)
 }
 
-/// Writes the codeword of message i, of k places, to slot i. Causes 1 to 4 and 6 to 8. Later slots, and on a refusal all, keep their
-/// values.
+/// Writes the codeword of message i, of k places, to slot i. Causes 1 to 4 and 6 to 8. Later slots, and on a refusal all, keep
+/// their values.
 pub fn encode(n: u32, k: u32, rows: &[u32], messages: &[u32], out: &mut [u32]) -> Result<(), Refusal> {
     told(|value| unsafe {
         raw::relay_encode(n, k, rows.as_ptr(), rows.len(), messages.as_ptr(), messages.len(), out.as_mut_ptr(), out.len(), value)
     })
 }
 
-/// Writes the message of codeword i to slot i. Causes 1 to 4, 6 to 8 and 10: one word that is no codeword refuses the whole list. Later
-/// slots, and on a refusal all, keep their values.
+/// Writes the message of codeword i to slot i. Causes 1 to 4, 6 to 8 and 10: one word that is no codeword refuses the whole list.
+/// Later slots, and on a refusal all, keep their values.
 pub fn message(n: u32, k: u32, rows: &[u32], words: &[u32], out: &mut [u32]) -> Result<(), Refusal> {
     told(|value| unsafe {
         raw::relay_message(n, k, rows.as_ptr(), rows.len(), words.as_ptr(), words.len(), out.as_mut_ptr(), out.len(), value)
     })
 }
 
-/// Decodes received words into the lent lists, and gives the outcomes over them. Causes 1 to 4, 5 within a radius, 6 to 9 and 11. Later
-/// slots, and on a refusal all, keep their values (under 11 the working list is written).
+/// Decodes received words into the lent lists, and gives the outcomes over them. Causes 1 to 4, 5 within a radius, 6 to 9 and 11.
+/// Later slots, and on a refusal all, keep their values (under 11 the working list is written).
 ///
 /// The leaders are built in each call, which takes from microseconds to about 0.2 seconds, by the matrix; more words cost little.
 pub fn decode<'a>(n: u32, k: u32, rows: &[u32], reading: Reading, words: &[u32], lent: Lent<'a>) -> Result<Decoded<'a>, Refusal> {
@@ -208,7 +210,7 @@ pub fn decode<'a>(n: u32, k: u32, rows: &[u32], reading: Reading, words: &[u32],
             value,
         )
     })?;
-    let leaders = 1 << n.saturating_sub(k).min(12);
+    let leaders = 1 << n.saturating_sub(k).min(MAX_CHECKS as u32);
     Ok(Decoded::over(front(lent.codewords, words.len()), front(lent.counts, words.len()), front(lent.work, leaders)))
 }
 
@@ -252,8 +254,8 @@ pub fn hsiao_message(codeword: HsiaoWord) -> Result<u64, Refusal> {
     Ok(message)
 }
 
-/// What the program `decode_sheet` prints for the bytes of a code sheet, written to the front of `out`; the rest keeps its values. A
-/// refused sheet, causes 1 to 7 and 11 to 13, is an error; its one line, "refused NUMBER VALUE", is written too.
+/// What the program `decode_sheet` prints for the bytes of a code sheet, written to the front of `out`; the rest keeps its
+/// values. A refused sheet, causes 1 to 7 and 11 to 13, is an error; its one line, "refused NUMBER VALUE", is written too.
 pub fn run<'a>(sheet: &[u8], out: &'a mut [u8; MAX_OUTPUT]) -> Result<&'a [u8], Refusal> {
     let length = unsafe { raw::relay_run(sheet.as_ptr(), sheet.len(), out.as_mut_ptr(), out.len()) };
     let printed = front(&out[..], length);

@@ -1,8 +1,9 @@
-//! The library, called through this crate, against the plain implementation of `plain`: on random inputs, valid and damaged, every answer
-//! with its value and every slot of every list. Each test demands that every cause that can arise has arisen, with its values.
+//! The library, called through this crate, against the plain implementation of `plain`: on random inputs, valid and damaged,
+//! every answer with its value and every slot of every list. Each test demands that every cause that can arise has arisen, with
+//! its values.
 //!
-//! The inputs are the same at each run. RELAY_SEED=NUMBER, decimal and below 2^64, gives others, each number its own; an empty one is as
-//! none, and anything else fails every test. A failing test prints the seed it had.
+//! The inputs are the same at each run. RELAY_SEED=NUMBER, decimal and below 2^64, gives others, each number its own; an empty
+//! one is as none, and anything else fails every test. A failing test prints the seed it had.
 mod codes;
 mod golay;
 mod hsiao;
