@@ -1,17 +1,19 @@
 //! Finds the static library that `rt staticlib relaymarten` writes: in the folder RELAYMARTEN_LIB_DIR (absolute, or from this
 //! crate's own folder), without it in `target/staticlib` of the repository.
 use std::env;
-use std::path::{Path, PathBuf};
+use std::path::PathBuf;
 
 const FOLDER: &str = "RELAYMARTEN_LIB_DIR";
 const LIBRARY: &str = "librelaymarten.a";
 
+/// The folder without links, where it exists. The crate's own is asked for at run time: a built script may run for another path.
 fn folder() -> PathBuf {
-    let own = Path::new(env!("CARGO_MANIFEST_DIR"));
-    match env::var_os(FOLDER) {
+    let own = PathBuf::from(env::var_os("CARGO_MANIFEST_DIR").unwrap_or_default());
+    let folder = match env::var_os(FOLDER) {
         Some(given) if !given.is_empty() => own.join(given),
         _ => own.join("../../target/staticlib"),
-    }
+    };
+    folder.canonicalize().unwrap_or(folder)
 }
 
 fn main() {
