@@ -1,7 +1,7 @@
 /* Relaymarten: proved encoding and decoding of binary linear block codes, for C and C++.
  *
  * Build:  rt staticlib relaymarten     gives target/staticlib/librelaymarten.a
- * Link:   cc program.c target/staticlib/librelaymarten.a
+ * Link:   cc -I bindings program.c target/staticlib/librelaymarten.a
  *
  * A word of n places is the number whose bit i is place i. A generator matrix is a list of k rows, each a word of n places; message
  * place i selects row i. n is 2 to 28, k is 1 to 16, n - k is 1 to 12; a batch has at most 512 words.
