@@ -43,8 +43,8 @@ abbrev pub workAfter : Answer → ℕ → ℕ → List ℕ → List ℕ → List
 workAfter Done n k rows old = tabulate (leaderOf n rows) (2 ^ (n - k)) ++ drop (2 ^ (n - k)) old
 workAfter (Refused c) n k rows old = pick (eqb (numberOf c) 11) (tabulate (entryOf n k rows) (2 ^ (n - k)) ++ drop (2 ^ (n - k)) old) old
 
--- on success the parity-check rows are answered, on a refusal 0 at each entry; the list holds at each syndrome its leader, the lightest word of the coset,
--- of several the smallest; every later slot, and on a refusal but number 11 every slot, is as it was
+-- on success the parity-check rows are answered, on a refusal 0 at each entry; the list holds at each syndrome its leader, the lightest
+-- word of the coset, of several the smallest; every later slot, and on a refusal but number 11 every slot, is as it was
 pub record LeadersOf (n k : ℕ) (rows before : List ℕ) (r : Leaders) (after : List ℕ) : Type 0 where
   pub answer : r .answer ≡ leadersAnswer n k rows (length before)
   pub checks : r .answer ≡ Done → ParityChecks n k rows (record { answer = r .answer; rows = r .checks })
