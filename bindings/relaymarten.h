@@ -31,7 +31,7 @@ extern "C" {
 
 /* The version of this header. */
 #define RELAY_VERSION_MAJOR 0
-#define RELAY_VERSION_MINOR 2
+#define RELAY_VERSION_MINOR 3
 #define RELAY_VERSION_PATCH 0
 #define RELAY_VERSION (10000 * RELAY_VERSION_MAJOR + 100 * RELAY_VERSION_MINOR + RELAY_VERSION_PATCH)
 
@@ -53,8 +53,8 @@ enum {
 
 /* Numbers. A call that may refuse returns 0, or the number of the first cause that refuses it, and writes at *value the value
  * beside it: the first such row or word, from 0, where the cause is about one, else 0. A call states its causes; they are tested
- * in rising order. A refused call on lists leaves every list as it was (11 apart: see relay_decode). Later versions may have more
- * numbers. docs/REFUSALS.md says of each what to do. */
+ * in rising order. A refused call on lists leaves every list as it was. Later versions may have more numbers; 11 stays unused.
+ * docs/REFUSALS.md says of each what to do. */
 enum {
     RELAY_DONE = 0,
     RELAY_OUT_OF_RANGE = 1,     /* n, k or n - k is out of range */
@@ -67,7 +67,6 @@ enum {
     RELAY_SHORT_OUTPUT = 8,     /* an output list is shorter than the words */
     RELAY_SHORT_WORK = 9,       /* the working list is shorter than 2^(n - k) */
     RELAY_NO_CODEWORD = 10,     /* a word that is to be read back is no codeword; *value: the first such word */
-    RELAY_NO_LEADER = 11,       /* a syndrome has no leader; *value: the smallest such. It is proved that none arises */
     RELAY_SHEET_LAYOUT = 12,    /* of relay_run alone: the sheet is cut, too long, or a field has a wrong length; value: the byte */
     RELAY_SHEET_TAG = 13        /* of relay_run alone: a tag is unknown, does not rise or is missing; value: the byte */
 };
@@ -96,11 +95,11 @@ uint32_t relay_message(uint32_t n, uint32_t k, const uint32_t *rows, size_t rows
                        uint32_t *out, size_t out_len, size_t *value);
 
 /* Decodes received words: as the nearest codewords where `within` is 0 (the radius is not looked at); where it is anything else,
- * as the codewords at a distance of at most `radius`. Causes 1 to 4, 5 where `within` is not 0, 6 to 9 and 11; cause 8 asks both
- * output lists.
+ * as the codewords at a distance of at most `radius`. Causes 1 to 4, 5 where `within` is not 0, and 6 to 9; cause 8 asks both
+ * output lists. The call either is refused, with every list as it was, or succeeds.
  * Written: slot i of `out` becomes the codeword of word i and slot i of `counts` its distance; a far word leaves the received
  * word, which is no answer, and RELAY_FAR. The first 2^(n - k) entries of `work` become the coset leaders by syndrome. Later
- * slots keep their values. Under 11 `work` holds the leaders, and 2^32 - 1 where there is none.
+ * slots keep their values.
  * Time: most of it goes into the leaders, which are built in each call, and depends on the matrix; more words cost little. 512
  * words took 3 us with a (7,4) code, 45 to 110 us with random (28,16) rows, and 0.15 s with (28,16) rows that leave twelve places
  * 0 in every codeword, the slowest found (AMD EPYC, 2.6 GHz).
@@ -135,7 +134,7 @@ uint8_t relay_hsiao_decode(uint8_t *check, uint64_t *data);
 uint32_t relay_hsiao_message(uint8_t check, uint64_t data, uint64_t *message, size_t *value);
 
 /* The run over a code sheet (docs/SHEET.md): writes the lines that the program decode_sheet prints, and returns how many bytes they
- * are. A refusal, causes 1 to 7, 11, 12 and 13, is the one line "refused NUMBER VALUE"; 12 and 13 are tested first. `out` has
+ * are. A refusal, causes 1 to 7, 12 and 13, is the one line "refused NUMBER VALUE"; 12 and 13 are tested first. `out` has
  * RELAY_MAX_OUTPUT bytes or more; a shorter list is left as it was, and 0 returned. Slots past the output keep their values.
  * Time: as relay_decode. Stack: about 26 kB. */
 size_t relay_run(const uint8_t *sheet, size_t sheet_len, uint8_t *out, size_t out_len);
@@ -159,7 +158,6 @@ static inline const char *relay_text(uint32_t number)
     case RELAY_SHORT_OUTPUT: return "an output list is shorter than the words";
     case RELAY_SHORT_WORK: return "the working list is shorter than 2^(n - k)";
     case RELAY_NO_CODEWORD: return "a word is to be read back and is no codeword";
-    case RELAY_NO_LEADER: return "a syndrome has no coset leader after the build";
     case RELAY_SHEET_LAYOUT: return "the sheet is cut or longer than 4,096 bytes, or a field has a wrong length";
     case RELAY_SHEET_TAG: return "a tag is unknown or does not rise, or one is missing at the end";
     default: return "a number that this version does not know";

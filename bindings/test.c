@@ -28,11 +28,12 @@ static void version(void)
     HOLDS(RELAY_VERSION_PATCH == RELAY_VERSION % 100);
 }
 
+/* Each number has a text of its own; 11 is none. */
 static void texts(void)
 {
     const char *unknown = relay_text(99);
     for (uint32_t i = RELAY_DONE; i <= RELAY_SHEET_TAG; i++) {
-        HOLDS(strlen(relay_text(i)) > 0 && strcmp(relay_text(i), unknown) != 0);
+        HOLDS(strlen(relay_text(i)) > 0 && (strcmp(relay_text(i), unknown) == 0) == (i == 11));
         for (uint32_t j = 0; j < i; j++)
             HOLDS(strcmp(relay_text(i), relay_text(j)) != 0);
     }
@@ -53,7 +54,7 @@ static uint32_t decode(uint32_t within, uint32_t radius, size_t m, size_t entrie
     return relay_decode(6, 3, rows, 3, within, radius, words, m, out, m, counts, m, work, entries, &value);
 }
 
-/* A call for each name; RELAY_NO_LEADER cannot arise. */
+/* A call for each name. */
 static void causes(void)
 {
     const uint32_t outside[3] = {0x31, 0x2A, 0x40}, dependent[3] = {0x31, 0x2A, 0x1B};

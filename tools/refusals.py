@@ -1,5 +1,5 @@
-"""The numbers of a refusal: what each means, the value V beside it and what to do. docs/REFUSALS.md has the same table, which this
-file prints when it is run."""
+"""The numbers of a refusal: what each means, the value V beside it and what to do. 11 stays unused. docs/REFUSALS.md has the
+same table, which this file prints when it is run."""
 from typing import NamedTuple
 
 NOTHING, ROW, WORD, BYTE = '0', 'the first such row, from 0', 'the first such word, from 0', 'the byte of the sheet, from 0'
@@ -32,8 +32,6 @@ CAUSES = {
              'Lend 2^(n - k) entries; 4,096 are enough for every code.'),
     10: Cause('word {} is to be read back and is no codeword', WORD,
               'Decode it first; a far word has no message.'),
-    11: Cause('syndrome {} has no coset leader after the build', 'the smallest such syndrome',
-              'It is proved that this does not arise: what printed it is not the proved program. Build it again.'),
     12: Cause('the sheet is cut or longer than 4,096 bytes, or the field at byte {} has a wrong length', BYTE,
               'See what tools/show_sheet says of the sheet, and make it again.'),
     13: Cause('the tag at byte {} is unknown or does not rise, or one is missing at the end', BYTE,

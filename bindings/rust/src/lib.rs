@@ -53,7 +53,7 @@ use outcome::front;
 
 /// The version of the library that this crate is written for: 10,000 times the major number, 100 times the minor one, and the
 /// patch.
-pub const VERSION: u32 = 200;
+pub const VERSION: u32 = 300;
 
 /// The most places of a word, n.
 pub const MAX_PLACES: u32 = 28;
@@ -182,8 +182,8 @@ pub fn message(n: u32, k: u32, rows: &[u32], words: &[u32], out: &mut [u32]) -> 
     })
 }
 
-/// Decodes received words into the lent lists, and gives the outcomes over them. Causes 1 to 4, 5 within a radius, 6 to 9 and 11.
-/// Later slots, and on a refusal all, keep their values (under 11 the working list is written).
+/// Decodes received words into the lent lists, and gives the outcomes over them. Causes 1 to 4, 5 within a radius, and 6 to 9.
+/// Later slots, and on a refusal all, keep their values.
 ///
 /// The leaders are built in each call, which takes from microseconds to about 0.2 seconds, by the matrix; more words cost little.
 pub fn decode<'a>(n: u32, k: u32, rows: &[u32], reading: Reading, words: &[u32], lent: Lent<'a>) -> Result<Decoded<'a>, Refusal> {
@@ -255,7 +255,7 @@ pub fn hsiao_message(codeword: HsiaoWord) -> Result<u64, Refusal> {
 }
 
 /// What the program `decode_sheet` prints for the bytes of a code sheet, written to the front of `out`; the rest keeps its
-/// values. A refused sheet, causes 1 to 7 and 11 to 13, is an error; its one line, "refused NUMBER VALUE", is written too.
+/// values. A refused sheet, causes 1 to 7, 12 and 13, is an error; its one line, "refused NUMBER VALUE", is written too.
 pub fn run<'a>(sheet: &[u8], out: &'a mut [u8; MAX_OUTPUT]) -> Result<&'a [u8], Refusal> {
     let length = unsafe { raw::relay_run(sheet.as_ptr(), sheet.len(), out.as_mut_ptr(), out.len()) };
     let printed = front(&out[..], length);

@@ -1,7 +1,7 @@
 use core::fmt;
 
-/// Why a call was refused: the first cause that applies. Where a cause names a row, a word, a syndrome or a byte, that is its
-/// value. Later versions may have more cases; [`number`](Refusal::number) and [`value`](Refusal::value) are those of the
+/// Why a call was refused: the first cause that applies. Where a cause names a row, a word or a byte, that is its value.
+/// Later versions may have more cases; [`number`](Refusal::number) and [`value`](Refusal::value) are those of the
 /// specification in each.
 #[derive(Clone, Copy, Debug, PartialEq, Eq, Hash)]
 #[non_exhaustive]
@@ -26,8 +26,6 @@ pub enum Refusal {
     ShortWork,
     /// 10: a word to be read back is no codeword; the first such word.
     NoCodeword(usize),
-    /// 11: a syndrome has no leader; the smallest such syndrome. It is proved that none arises.
-    NoLeader(usize),
     /// 12: a sheet is cut, too long, or a field has a wrong length; the byte.
     SheetLayout(usize),
     /// 13: a tag of a sheet is unknown, does not rise or is missing; the byte.
@@ -49,7 +47,6 @@ impl Refusal {
             (8, 0) => Refusal::ShortOutput,
             (9, 0) => Refusal::ShortWork,
             (10, word) => Refusal::NoCodeword(word),
-            (11, syndrome) => Refusal::NoLeader(syndrome),
             (12, byte) => Refusal::SheetLayout(byte),
             (13, byte) => Refusal::SheetTag(byte),
             _ => Refusal::Other(number, value),
@@ -69,7 +66,6 @@ impl Refusal {
             Refusal::ShortOutput => 8,
             Refusal::ShortWork => 9,
             Refusal::NoCodeword(_) => 10,
-            Refusal::NoLeader(_) => 11,
             Refusal::SheetLayout(_) => 12,
             Refusal::SheetTag(_) => 13,
             Refusal::Other(number, _) => number,
@@ -83,7 +79,6 @@ impl Refusal {
             | Refusal::Dependent(v)
             | Refusal::WordOutside(v)
             | Refusal::NoCodeword(v)
-            | Refusal::NoLeader(v)
             | Refusal::SheetLayout(v)
             | Refusal::SheetTag(v)
             | Refusal::Other(_, v) => v,
@@ -111,7 +106,6 @@ impl fmt::Display for Refusal {
             Refusal::ShortOutput => write!(f, "an output list is shorter than the words"),
             Refusal::ShortWork => write!(f, "the working list is shorter than 2^(n - k)"),
             Refusal::NoCodeword(i) => write!(f, "word {i} is to be read back and is no codeword"),
-            Refusal::NoLeader(s) => write!(f, "syndrome {s} has no coset leader after the build"),
             Refusal::SheetLayout(at) => {
                 write!(f, "the sheet is cut or longer than 4,096 bytes, or the field at byte {at} has a wrong length")
             }

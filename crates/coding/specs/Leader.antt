@@ -34,7 +34,8 @@ abbrev pub lightestBelow : (ℕ → Bool) → ℕ → Option ℕ
 lightestBelow p zero = none
 lightestBelow p (suc m) = merge (p m) m (lightestBelow p m)
 
--- the entry of a syndrome that has no leader
+-- the blank entry: what the build writes before it tries words, and the value of a search that finds nothing. No lent list holds it at
+-- the end: every syndrome has a leader, and a leader weighs at most n - k (`leader-is`, `leader-light`)
 abbrev pub noLeader : ℕ
 noLeader = 2 ^ 32 - 1
 

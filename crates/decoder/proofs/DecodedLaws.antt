@@ -1,5 +1,5 @@
--- Laws of Decode past its causes: the build gives the leaders and leaves no entry blank, each word's slots are those of the definition,
--- and demand 3 holds of them. Assumes nothing.
+-- Laws of Decode past its causes: with the leaders each word's slots are those of the definition, and demand 3 holds of them. Assumes
+-- nothing.
 use mathlib.Core.Path.{_≡_, refl, sym, ap, ap₂, _∙_}
 use mathlib.Core.Logic.{_↔_}
 use mathlib.Core.List.{List, _++_, map}
@@ -11,7 +11,7 @@ use native.Mathlib.Omega.{arith}
 use lib.ListN.{length, getD, length-map, List·getD-append}
 use lib.Bits.{xor-zero-r}
 use borrow.Author.Tests.{eq-eqb, ne-eqb, le-leb, lt-leb}
-use Rattle.coding.specs.Lists.{padded, tabulate}
+use Rattle.coding.specs.Lists.{padded}
 use Rattle.coding.specs.Word.{_⊕_, weight, distance}
 use Rattle.coding.specs.Matrix.{Codeword}
 use Rattle.coding.specs.Check.{checks, syndrome}
@@ -27,6 +27,7 @@ use Rattle.coding.proofs.DecodeLaws.{near-is}
 use Rattle.coding.proofs.RadiusLaws.{one-within, radius-rules}
 use Rattle.words.specs.Limits.{maxChecks}
 use Rattle.linear.specs.Accepted.{Accepted}
+use Rattle.leaders.specs.Leaders.{leadersList}
 use Rattle.leaders.proofs.BuiltLaws.{checks-pad, syndrome-below, light}
 use Rattle.outcomes.specs.Outcome.{takes, outcomeOf, wordIn, countIn}
 use Rattle.decoder.specs.Decoded.{wordBy, countBy, decodedAs, wordOf, countOf}
@@ -74,7 +75,7 @@ slot-at f ws rest i h = List·getD-append (map f ws) rest 0 i (rw (length-map ws
 module _ (n k : ℕ) (rows : List ℕ) (A : Accepted n k rows) where
   -- ---- the slots
 
-  module _ (reading : Reading) (leaders : List ℕ) (is : leaders ≡ tabulate (leaderOf n rows) (2 ^ (n - k))) where
+  module _ (reading : Reading) (leaders : List ℕ) (is : leaders ≡ leadersList n k rows) where
     outcome-by : (w : ℕ) → outcomeOf reading w (getD leaders (syndrome (padded maxChecks (checks n rows)) w) 0) ≡ decodedAs n rows reading w
     outcome-by w =
         ap (outcomeOf reading w)

@@ -1,39 +1,39 @@
 -- What Decode promises, put together from its causes and from what the lists hold. Assumes nothing.
 use mathlib.Core.Path.{_≡_, refl, sym, ap, _∙_}
+use mathlib.Core.Logic.{inl, inr}
 use mathlib.Core.List.{List, _++_, map}
 use Prim.Native.Nat.{ℕ, _-_, _^_, _<_}
-use lib.ListN.{length, getD, drop, List·getD-append}
-use Rattle.coding.specs.Lists.{tabulate}
-use Rattle.coding.specs.Leader.{leaderOf}
+use lib.ListN.{length, getD, drop}
+use Rattle.coding.specs.Leader.{IsLeader}
 use Rattle.coding.specs.Weight.{dmin}
-use Rattle.coding.proofs.CountLaws.{length-tabulate, getD-tabulate}
 use Rattle.linear.specs.Accepted.{Accepted}
+use Rattle.words.specs.Refusal.{onDone}
 use Rattle.words.specs.declared.answer.Refusal.{Refusal}
 use Rattle.words.specs.declared.answer.Answer.{Answer}
 use Rattle.words.specs.declared.answer.Answer.the-variants.{Done, Refused}
 use Rattle.linear.proofs.AcceptLaws.{accepted-in}
 use Rattle.words.proofs.ShapeLaws.{refused-done}
-use Rattle.words.proofs.ListLaws.{stays, goes, kept, written}
+use Rattle.words.proofs.ListLaws.{kept, written}
 use Rattle.weights.proofs.DescribeLaws.{distance-is}
-use Rattle.outcomes.specs.Causes.{batchAnswer}
-use Rattle.leaders.specs.Leaders.{leaderAnswer}
+use Rattle.leaders.specs.Leaders.{leadersList}
+use Rattle.outcomes.specs.Causes.{decodeAnswer}
 use Rattle.decoder.specs.Decoded.{wordOf, countOf, Decoded}
 use Rattle.outcomes.specs.declared.outcome.Reading.{Reading}
-use Rattle.outcomes.proofs.CauseLaws.{Passed, batch-in, batch-early, radius-in}
+use Rattle.outcomes.proofs.CauseLaws.{Passed, batch-in, refused-number, radius-in}
 use Rattle.decoder.proofs.DecodedLaws.{slot-at, nearest-rule, radius-rule, clean-rule}
-use Rattle.leaders.proofs.BuiltLaws.{leader-at, leader-passes}
 
 module _ (n k : ℕ) (rows : List ℕ) (reading : Reading) (words out counts work : List ℕ) where
   -- causes 1 to 9 leave every list as it was
-  pub decode-refused : (r : Answer) (c : Refusal) → r ≡ Refused c → r ≡ batchAnswer n k rows reading words (length out) (length counts) (length work)
+  pub decode-refused : (r : Answer) (c : Refusal) → r ≡ Refused c → r ≡ decodeAnswer n k rows reading words (length out) (length counts) (length work)
       → Decoded n k rows reading words out counts work r out counts work
   decode-refused r c e b =
-      let q : batchAnswer n k rows reading words (length out) (length counts) (length work) ≡ Refused c = sym b ∙ e in
+      let (low, high) = refused-number n k rows reading words (length out) (length counts) (length work) c (sym b ∙ e) in
       record {
-        answer = b ∙ stays (batchAnswer n k rows reading words (length out) (length counts) (length work)) (leaderAnswer n k rows) c q;
+        answer = b;
+        either = inl (c, e, low, high, refl, refl, refl);
         codewords = kept r c e _ out;
         distances = kept r c e _ counts;
-        leaders = rw e (simp (batch-early n k rows reading words (length out) (length counts) (length work) c q) refl);
+        leaders = kept r c e _ work;
         leader = λ d. refused-done (sym e ∙ d);
         minimum = λ d. refused-done (sym e ∙ d);
         nearest = λ d. refused-done (sym e ∙ d);
@@ -41,7 +41,7 @@ module _ (n k : ℕ) (rows : List ℕ) (reading : Reading) (words out counts wor
         clean = λ d. refused-done (sym e ∙ d);
       }
 
-  module _ (b : batchAnswer n k rows reading words (length out) (length counts) (length work) ≡ Done) where
+  module _ (b : decodeAnswer n k rows reading words (length out) (length counts) (length work) ≡ Done) where
     passed : Passed n k rows reading words (length out) (length counts) (length work)
     passed = batch-in n k rows reading words (length out) (length counts) (length work) b
 
@@ -52,14 +52,16 @@ module _ (n k : ℕ) (rows : List ℕ) (reading : Reading) (words out counts wor
     pub decode-done : (out′ counts′ work′ : List ℕ)
         → out′ ≡ map (wordOf n rows reading) words ++ drop (length words) out
         → counts′ ≡ map (countOf n rows reading) words ++ drop (length words) counts
-        → work′ ≡ tabulate (leaderOf n rows) (2 ^ (n - k)) ++ drop (2 ^ (n - k)) work
+        → work′ ≡ onDone Done (leadersList n k rows) work
+        → ((s : ℕ) → s < 2 ^ (n - k) → IsLeader n rows s (getD work′ s 0))
         → Decoded n k rows reading words out counts work Done out′ counts′ work′
-    decode-done out′ counts′ work′ eo ec ew = record {
-      answer = sym (leader-passes n k rows A) ∙ goes (batchAnswer n k rows reading words (length out) (length counts) (length work)) (leaderAnswer n k rows) b;
+    decode-done out′ counts′ work′ eo ec ew leaders = record {
+      answer = sym b;
+      either = inr refl;
       codewords = written (wordOf n rows reading) words out out′ eo;
       distances = written (countOf n rows reading) words counts counts′ ec;
       leaders = ew;
-      leader = λ _ s h. rw (leader-slot s h) (leader-at n k rows A s h);
+      leader = λ _. leaders;
       minimum = λ _. distance-is n k rows A;
       nearest = λ _ e i h. rw (out-slot i h, count-slot i h, e) (nearest-rule n k rows A (getD words i 0) (passed .listed .inside i h));
       within = λ _ ρ e i h. rw (out-slot i h, count-slot i h, e)
@@ -75,9 +77,3 @@ module _ (n k : ℕ) (rows : List ℕ) (reading : Reading) (words out counts wor
 
         count-slot : (i : ℕ) → i < length words → getD counts′ i 0 ≡ countOf n rows reading (getD words i 0)
         count-slot i h = ap (λ (l : List ℕ). getD l i 0) ec ∙ slot-at (countOf n rows reading) words (drop (length words) counts) i h
-
-        leader-slot : (s : ℕ) → s < 2 ^ (n - k) → getD work′ s 0 ≡ leaderOf n rows s
-        leader-slot s h =
-            ap (λ (l : List ℕ). getD l s 0) ew
-            ∙ List·getD-append (tabulate (leaderOf n rows) (2 ^ (n - k))) (drop (2 ^ (n - k)) work) 0 s (rw (length-tabulate (leaderOf n rows) (2 ^ (n - k))) h)
-            ∙ getD-tabulate (leaderOf n rows) (2 ^ (n - k)) s h

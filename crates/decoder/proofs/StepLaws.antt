@@ -6,18 +6,17 @@ use Prim.Native.Nat.{ℕ, _-_, _*_, _%_, _^_, _≤_, _<_}
 use native.Mathlib.Omega.{arith}
 use lib.ListN.{length, take, drop, length-append}
 use lib.Seq.{take-at}
-use Rattle.coding.specs.Lists.{padded, tabulate}
+use Rattle.coding.specs.Lists.{padded}
 use Rattle.coding.specs.Check.{checks, syndrome}
-use Rattle.coding.specs.Leader.{leaderOf}
-use Rattle.coding.proofs.CountLaws.{length-tabulate}
 use Rattle.words.specs.Limits.{maxChecks}
+use Rattle.words.specs.Refusal.{onDone}
 use Rattle.words.specs.declared.answer.Answer.the-variants.{Done}
 use Rattle.linear.specs.Accepted.{Accepted}
-use Rattle.leaders.specs.Leaders.{LeadersOf}
+use Rattle.leaders.specs.Leaders.{leadersList, LeadersOf}
 use Rattle.leaders.specs.declared.build.Leaders.{Leaders}
-use Rattle.leaders.proofs.BuiltLaws.{checks-below}
+use Rattle.leaders.proofs.BuiltLaws.{checks-below, leaders-long}
 use Rattle.leaders.proofs.PromiseLaws.{size-is as shift-is, leaders-pass}
-use Rattle.outcomes.specs.Causes.{batchAnswer}
+use Rattle.outcomes.specs.Causes.{decodeAnswer}
 use Rattle.outcomes.specs.declared.outcome.Reading.{Reading}
 use Rattle.outcomes.proofs.CauseLaws.{batch-in}
 use Rattle.decoder.specs.Decoded.{wordBy, countBy, Decoded}
@@ -26,7 +25,7 @@ use Rattle.decoder.proofs.PromiseLaws.{past-causes, decode-done}
 
 -- causes 1 to 9 have passed
 pub record Past (n k : ℕ) (rows : List ℕ) (reading : Reading) (words out counts work : List ℕ) : Type 0 where
-  pub passed : batchAnswer n k rows reading words (length out) (length counts) (length work) ≡ Done
+  pub passed : decodeAnswer n k rows reading words (length out) (length counts) (length work) ≡ Done
 
 module _ {n k : ℕ} {rows : List ℕ} {reading : Reading} {words out counts work : List ℕ} (g : Past n k rows reading words out counts work) where
   A : Accepted n k rows
@@ -50,27 +49,23 @@ module _ {n k : ℕ} {rows : List ℕ} {reading : Reading} {words out counts wor
       (omega (arith, h), omega (arith, h))
 
   module _ {l : Leaders} {work′ : List ℕ} (L : LeadersOf n k rows work l work′) where
-    pub leaders-done : l .answer ≡ Done
+    leaders-done : l .answer ≡ Done
     leaders-done = L .answer ∙ leaders-pass n k rows A (length work) work-fits
 
     check-rows : l .checks ≡ padded maxChecks (checks n rows)
     check-rows = rw leaders-done at (L .checks leaders-done .rows-are)
 
-    work-is : work′ ≡ tabulate (leaderOf n rows) (2 ^ (n - k)) ++ drop (2 ^ (n - k)) work
+    work-is : work′ ≡ onDone Done (leadersList n k rows) work
     work-is = rw leaders-done at (L .list)
 
-    long : length (tabulate (leaderOf n rows) (2 ^ (n - k))) ≡ 2 ^ (n - k)
-    long = length-tabulate (leaderOf n rows) (2 ^ (n - k))
-
-    leaders-lent : take (2 ^ (n - k)) work′ ≡ tabulate (leaderOf n rows) (2 ^ (n - k))
-    leaders-lent = ap (take (2 ^ (n - k))) work-is ∙ take-at (tabulate (leaderOf n rows) (2 ^ (n - k))) (drop (2 ^ (n - k)) work) (2 ^ (n - k)) long
+    leaders-lent : take (2 ^ (n - k)) work′ ≡ leadersList n k rows
+    leaders-lent = ap (take (2 ^ (n - k))) work-is ∙ take-at (leadersList n k rows) _ (2 ^ (n - k)) (leaders-long n k rows A)
 
     pub lent-long : length (take (2 ^ (n - k)) work′) ≡ 2 ^ (n - k)
-    lent-long = ap length leaders-lent ∙ long
+    lent-long = ap length leaders-lent ∙ leaders-long n k rows A
 
     pub work-long : 2 ^ (n - k) ≤ length work′
-    work-long =
-        omega (arith, ap length work-is ∙ length-append (tabulate (leaderOf n rows) (2 ^ (n - k))) (drop (2 ^ (n - k)) work), long)
+    work-long = omega (arith, ap length work-is ∙ length-append (leadersList n k rows) _, leaders-long n k rows A)
 
     pub syndromes-fit : (w : ℕ) → syndrome (l .checks) w < length (take (2 ^ (n - k)) work′)
     syndromes-fit w = rw (lent-long, check-rows) (checks-below n k rows A w)
@@ -88,4 +83,4 @@ module _ {n k : ℕ} {rows : List ℕ} {reading : Reading} {words out counts wor
         (ec ∙ ap (λ (x : List ℕ). x ++ drop (length words) counts)
         (ap (λ (h : List ℕ). map (countBy reading (take (2 ^ (n - k)) work′) h) words) check-rows
         ∙ counts-are n k rows A reading (take (2 ^ (n - k)) work′) leaders-lent words))
-        work-is
+        work-is (L .leader leaders-done)

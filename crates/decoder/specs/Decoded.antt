@@ -1,8 +1,8 @@
 -- 01, Decode: its answer, what every lent list holds at the end, and 00's demand 3.
 use mathlib.Core.Path.{_≡_}
-use mathlib.Core.Logic.{_↔_}
+use mathlib.Core.Logic.{_↔_, _⊎_}
 use mathlib.Core.List.{List, map}
-use Prim.Native.Nat.{ℕ, _-_, _^_, _<_}
+use Prim.Native.Nat.{ℕ, _-_, _^_, _≤_, _<_}
 use lib.ListN.{length, getD}
 use Rattle.coding.specs.Word.{distance}
 use Rattle.coding.specs.Matrix.{Codeword}
@@ -10,10 +10,11 @@ use Rattle.coding.specs.Check.{syndrome}
 use Rattle.coding.specs.Weight.{dmin, MinimumDistance}
 use Rattle.coding.specs.Leader.{syndromeOf, IsLeader, leaderOf}
 use Rattle.coding.specs.Radius.{NearestRule, RadiusRules}
-use Rattle.words.specs.Refusal.{onDone}
+use Rattle.words.specs.Refusal.{numberOf, onDone}
+use Rattle.words.specs.declared.answer.Refusal.{Refusal}
 use Rattle.words.specs.declared.answer.Answer.{Answer}
-use Rattle.words.specs.declared.answer.Answer.the-variants.{Done}
-use Rattle.leaders.specs.Leaders.{workAfter}
+use Rattle.words.specs.declared.answer.Answer.the-variants.{Done, Refused}
+use Rattle.leaders.specs.Leaders.{leadersList}
 use Rattle.outcomes.specs.Outcome.{outcomeOf, wordIn, countIn}
 use Rattle.outcomes.specs.Causes.{decodeAnswer}
 use Rattle.outcomes.specs.declared.outcome.Reading.{Reading}
@@ -38,14 +39,15 @@ wordOf n rows reading w = wordIn (decodedAs n rows reading w) w
 abbrev pub countOf : ℕ → List ℕ → Reading → ℕ → ℕ
 countOf n rows reading w = countIn (decodedAs n rows reading w)
 
--- slot i of the codewords and of the counts is the answer to word i, 255 meaning far; later slots, and on a refusal every slot, are
--- as they were; the working list holds the leaders. On success dmin is the minimum distance, demand 3 holds of every word of the batch,
--- in either reading, and a word is clean exactly when its count is 0
+-- Decode either refuses under 1 to 9 with every list unchanged, or succeeds. Then slot i of the codewords and of the counts is the answer
+-- to word i, 255 meaning far, the working list holds the leaders, and later slots are as they were; dmin is the minimum distance, demand 3
+-- holds of every word of the batch, in either reading, and a word is clean exactly when its count is 0
 pub record Decoded (n k : ℕ) (rows : List ℕ) (reading : Reading) (words out counts work : List ℕ) (r : Answer) (out′ counts′ work′ : List ℕ) : Type 0 where
   pub answer : r ≡ decodeAnswer n k rows reading words (length out) (length counts) (length work)
+  pub either : ((c : Refusal) × (r ≡ Refused c) × (1 ≤ numberOf c) × (numberOf c ≤ 9) × (out′ ≡ out) × (counts′ ≡ counts) × (work′ ≡ work)) ⊎ (r ≡ Done)
   pub codewords : out′ ≡ onDone r (map (wordOf n rows reading) words) out
   pub distances : counts′ ≡ onDone r (map (countOf n rows reading) words) counts
-  pub leaders : work′ ≡ workAfter r n k rows work
+  pub leaders : work′ ≡ onDone r (leadersList n k rows) work
   pub leader : r ≡ Done → (s : ℕ) → s < 2 ^ (n - k) → IsLeader n rows s (getD work′ s 0)
   pub minimum : r ≡ Done → MinimumDistance n rows (dmin rows)
   pub nearest : r ≡ Done → reading ≡ Nearest → (i : ℕ) → i < length words

@@ -4,7 +4,6 @@ use leaders::build::leaders_of;
 use outcomes::causes::Measured;
 use outcomes::causes::batch_cause;
 use outcomes::causes::measured_cause;
-use outcomes::causes::unmeasured;
 use outcomes::outcome::Reading;
 use outcomes::outcome::count_in;
 use outcomes::outcome::judged;
@@ -19,7 +18,7 @@ ghost use Rattle.coding.specs.Check.{syndrome};
 ghost use Rattle.coding.specs.Weight.{dmin};
 ghost use Rattle.words.specs.Refusal.{ifDone};
 ghost use Rattle.words.specs.declared.answer.Answer.the-variants.{Done};
-ghost use Rattle.outcomes.specs.Causes.{batchAnswer};
+ghost use Rattle.outcomes.specs.Causes.{decodeAnswer};
 ghost use Rattle.decoder.specs.Decoded.{wordBy, countBy, Decoded};
 
 // Each word is decoded with its leader; the later slots keep their values.
@@ -57,19 +56,14 @@ fn decode_passed(
     out: &mut [u32],
     counts: &mut [u8],
     work: &mut [u32],
-) -> Answer
-    requires { ⌜ batchAnswer n k (now rows) reading (now words) (length (now out)) (length (now counts)) (length (now work)) ≡ Done ⌝ }
-    ensures { λ r. ⌜ Decoded n k (now (rows .entry)) reading (now (words .entry)) (now (out .entry)) (now (counts .entry)) (now (work .entry)) r (now (out .exit)) (now (counts .exit)) (now (work .exit)) ⌝ }
+)
+    requires { ⌜ decodeAnswer n k (now rows) reading (now words) (length (now out)) (length (now counts)) (length (now work)) ≡ Done ⌝ }
+    ensures { λ _. ⌜ Decoded n k (now (rows .entry)) reading (now (words .entry)) (now (out .entry)) (now (counts .entry)) (now (work .entry)) Done (now (out .exit)) (now (counts .exit)) (now (work .exit)) ⌝ }
 {
     let l = leaders_of(n, k, rows, work);
-    let a = l.answer;
-    let Answer::Done = a else {
-        return a;
-    };
     let checks = l.checks;
     let size = 1usize << (n - k);
     decode_words(&checks, reading, words, &work[..size], out, counts);
-    Answer::Done
 }
 
 // Decodes the words: codewords and counts into the first two lists, the leaders into the third.
@@ -98,7 +92,8 @@ pub fn decode(
     let Answer::Done = a else {
         return a;
     };
-    decode_passed(n, k, rows, reading, words, out, counts, work)
+    decode_passed(n, k, rows, reading, words, out, counts, work);
+    Answer::Done
 }
 
 // The same, with the minimum distance beside the answer; the codewords are walked once, in either reading.
@@ -129,12 +124,9 @@ pub fn decode_measured(
     let Answer::Done = a else {
         return m;
     };
-    let b = decode_passed(n, k, rows, reading, words, out, counts, work);
-    let Answer::Done = b else {
-        return unmeasured(b);
-    };
+    decode_passed(n, k, rows, reading, words, out, counts, work);
     Measured {
-        answer: b,
+        answer: a,
         dmin: m.dmin,
     }
 }

@@ -1,4 +1,3 @@
 mod TryLaws
-pub mod EarlyLaws
 pub mod BuiltLaws
 pub mod PromiseLaws

@@ -2,13 +2,11 @@
 use mathlib.Core.Path.{_≡_}
 use mathlib.Core.List.{List, map}
 use Prim.Native.Nat.{ℕ, suc, _+_, _*_, _^_, _≤_, _<_}
-use lib.Dec.{eqb}
-use lib.ListN.{length, getD}
-use Rattle.coding.specs.Lists.{first, tabulate}
+use lib.ListN.{length}
+use Rattle.coding.specs.Lists.{tabulate}
 use Rattle.coding.specs.Word.{weight}
 use Rattle.coding.specs.Matrix.{encode}
 use Rattle.coding.specs.Check.{syndrome}
-use Rattle.coding.specs.Leader.{noLeader}
 use Rattle.coding.specs.Order.{words, order, fills, blanks, blankCount}
 
 -- the syndromes of the words with a single one
@@ -33,7 +31,6 @@ pub record Tried (before cols : List ℕ) (m t prefix : ℕ) (after : List ℕ) 
   pub filled : after ≡ fills (encode cols) before (map (λ w. prefix + w) (words m t))
   pub left : blank ≡ blankCount after
 
--- every word of n places and weight up to c has been tried, and r is the first entry that is blank, or the number of entries
-pub record BuiltList (checks : List ℕ) (n c : ℕ) (list : List ℕ) (r : ℕ) : Type 0 where
-  pub filled : list ≡ fills (encode (columnsOf checks)) (blanks (2 ^ c)) (order n (suc c))
-  pub blank : r ≡ first (λ s. eqb (getD list s 0) noLeader) (length list)
+-- the list on which every word of n places and weight up to c has been tried
+abbrev pub builtList : List ℕ → ℕ → ℕ → List ℕ
+builtList checks n c = fills (encode (columnsOf checks)) (blanks (2 ^ c)) (order n (suc c))

@@ -8,16 +8,14 @@ use words::limits::MAX_CHECKS;
 use words::limits::WIDTH;
 ghost use mathlib.Core.Path.{_≡_};
 ghost use Prim.Native.Nat.{ℕ, suc, _+_, _<_, _≤_, _^_};
-ghost use lib.Dec.{eqb};
-ghost use lib.ListN.{length, getD};
-ghost use Rattle.coding.specs.Lists.{blank, first};
+ghost use lib.ListN.{length};
+ghost use Rattle.coding.specs.Lists.{blank};
 ghost use Rattle.coding.specs.Matrix.{encode};
 ghost use Rattle.coding.specs.Check.{syndrome};
-ghost use Rattle.coding.specs.Leader.{noLeader};
 ghost use Rattle.coding.specs.Order.{words, order, fills, blanks};
 ghost use Rattle.words.specs.Limits.{maxChecks};
 ghost use Rattle.leaders.specs.Leaders.{LeadersOf};
-ghost use Rattle.leaders.specs.Built.{columnsOf, Trying, Tried, BuiltList};
+ghost use Rattle.leaders.specs.Built.{columnsOf, Trying, Tried, builtList};
 
 // The entry of a syndrome that has no leader yet.
 const BLANK: u32 = 4294967295;
@@ -165,28 +163,13 @@ fn fill_list(list: &mut [u32], cols: &[u32; WIDTH], n: usize, c: usize)
     }
 }
 
-// The first entry that is blank, or the number of entries where none is.
-fn first_blank(list: &[u32]) -> usize
-    ensures { λ r. ⌜ r ≡ first (λ s. eqb (getD (now (list .entry)) s 0) noLeader) (length (now (list .entry))) ⌝ }
-{
-    let mut s: usize = 0;
-    while s < list.len() {
-        if list[s] == BLANK {
-            return s;
-        }
-        s += 1;
-    }
-    s
-}
-
-// The list becomes the leaders; answers the first syndrome that has none, or the number of syndromes.
-fn build(checks: &[u32; MAX_CHECKS], n: usize, c: usize, list: &mut [u32]) -> usize
+// The list becomes the leaders.
+fn build(checks: &[u32; MAX_CHECKS], n: usize, c: usize, list: &mut [u32])
     requires { ⌜ (n ≤ 32) × (c < 32) × (length (now list) ≡ 2 ^ c) × ((w : ℕ) → syndrome (now checks) w < 2 ^ c) ⌝ }
-    ensures { λ r. ⌜ BuiltList (now (checks .entry)) n c (now (list .exit)) r ⌝ }
+    ensures { λ _. ⌜ now (list .exit) ≡ builtList (now (checks .entry)) n c ⌝ }
 {
     let cols = columns(checks);
     fill_list(list, &cols, n, c);
-    first_blank(list)
 }
 
 // The answer to a matrix and the length of a list; where the leaders stand in the list, the check rows that give their syndromes, else 0.
@@ -204,7 +187,7 @@ fn refused(answer: Answer) -> Leaders
     }
 }
 
-// The first 2^(n - k) entries become the leaders by syndrome: causes 1 to 4, 9 and 11.
+// The first 2^(n - k) entries become the leaders by syndrome: causes 1 to 4 and 9.
 pub fn leaders_of(n: u32, k: u32, rows: &[u32], list: &mut [u32]) -> Leaders
     ensures { λ r. ⌜ LeadersOf n k (now (rows .entry)) (now (list .entry)) r (now (list .exit)) ⌝ }
 {
@@ -218,10 +201,7 @@ pub fn leaders_of(n: u32, k: u32, rows: &[u32], list: &mut [u32]) -> Leaders
         return refused(Answer::Refused(Refusal::ShortWork));
     }
     let checks = c.rows;
-    let bad = build(&checks, n as usize, (n - k) as usize, &mut list[..size]);
-    if bad != size {
-        return refused(Answer::Refused(Refusal::NoLeader(bad)));
-    }
+    build(&checks, n as usize, (n - k) as usize, &mut list[..size]);
     Leaders {
         answer: Answer::Done,
         checks,

@@ -1,28 +1,28 @@
 -- Laws of the causes of Decode: which group refuses, and what is known when none does. Assumes nothing.
 use mathlib.Core.Path.{_≡_, refl}
 use mathlib.Core.List.{List}
-use mathlib.Core.Bool.{false}
+use mathlib.Core.Bool.{Bool, true, false}
 use Prim.Native.Nat.{ℕ, _+_, _-_, _*_, _/_, _^_, _≤_, _<_, min}
 use native.Mathlib.Omega.{arith}
 use lib.Dec.{eqb, leb}
 use lib.ListN.{length}
 use borrow.Author.Tests.{leb-true, le-leb, lt-leb}
+use Rattle.coding.specs.Matrix.{firstDependent}
 use Rattle.coding.specs.Weight.{dmin}
-use Rattle.words.specs.Limits.{maxWords}
-use Rattle.words.specs.Refusal.{numberOf, ifDone}
-use Rattle.words.specs.Shape.{firstOutside}
+use Rattle.words.specs.Limits.{maxWords, inRange}
+use Rattle.words.specs.Refusal.{numberOf, unless, andThen, ifDone}
+use Rattle.words.specs.Shape.{firstOutside, shapeAnswer}
 use Rattle.linear.specs.Accepted.{matrixAnswer}
 use Rattle.words.specs.Lists.{listAnswer}
 use Rattle.words.specs.declared.answer.Refusal.{Refusal}
-use Rattle.words.specs.declared.answer.Refusal.the-variants.{RadiusTooLarge, TooManyWords, WordOutside, ShortOutput, ShortWork}
+use Rattle.words.specs.declared.answer.Refusal.the-variants.{OutOfRange, RowCount, RowOutside, Dependent, RadiusTooLarge, TooManyWords, WordOutside, ShortOutput, ShortWork}
 use Rattle.words.specs.declared.answer.Answer.{Answer}
 use Rattle.words.specs.declared.answer.Answer.the-variants.{Done, Refused}
 use Rattle.words.proofs.ShapeLaws.{unless-done, andThen-done}
 use Rattle.words.proofs.ListLaws.{Listed, list-in}
-use Rattle.leaders.proofs.EarlyLaws.{Early, early-done, early-unless, early-andThen, early-matrix}
 use Rattle.weights.specs.Described.{WeightsOf}
 use Rattle.weights.specs.declared.weights.Weights.{Weights}
-use Rattle.outcomes.specs.Causes.{radiusAnswer, listsAnswer, batchAnswer}
+use Rattle.outcomes.specs.Causes.{radiusAnswer, listsAnswer, decodeAnswer}
 use Rattle.leaders.specs.Leaders.{workAnswer}
 use Rattle.outcomes.specs.declared.outcome.Reading.{Reading}
 use Rattle.outcomes.specs.declared.outcome.Reading.the-variants.{Nearest, Within}
@@ -62,17 +62,17 @@ module _ (n k : ℕ) (words : List ℕ) (slots bytes room : ℕ) where
 -- ---- the groups in order
 
 module _ (n k : ℕ) (rows : List ℕ) (reading : Reading) (words : List ℕ) (slots bytes room : ℕ) where
-  pub at-matrix : (c : Refusal) → matrixAnswer n k rows ≡ Refused c → Refused c ≡ batchAnswer n k rows reading words slots bytes room
-  unfolding batchAnswer
+  pub at-matrix : (c : Refusal) → matrixAnswer n k rows ≡ Refused c → Refused c ≡ decodeAnswer n k rows reading words slots bytes room
+  unfolding decodeAnswer
   at-matrix c e = rw e refl
 
   module _ (m : matrixAnswer n k rows ≡ Done) where
-    pub at-radius : (c : Refusal) → radiusAnswer reading (dmin rows) ≡ Refused c → Refused c ≡ batchAnswer n k rows reading words slots bytes room
-    unfolding batchAnswer
+    pub at-radius : (c : Refusal) → radiusAnswer reading (dmin rows) ≡ Refused c → Refused c ≡ decodeAnswer n k rows reading words slots bytes room
+    unfolding decodeAnswer
     at-radius c e = rw (m, e) refl
 
-    pub at-lists : radiusAnswer reading (dmin rows) ≡ Done → listsAnswer n k words slots bytes room ≡ batchAnswer n k rows reading words slots bytes room
-    unfolding batchAnswer
+    pub at-lists : radiusAnswer reading (dmin rows) ≡ Done → listsAnswer n k words slots bytes room ≡ decodeAnswer n k rows reading words slots bytes room
+    unfolding decodeAnswer
     at-lists q = rw (m, q) refl
 
   -- what is known when causes 1 to 9 have passed
@@ -82,8 +82,8 @@ module _ (n k : ℕ) (rows : List ℕ) (reading : Reading) (words : List ℕ) (s
     pub listed : Listed words n (min slots bytes)
     pub work : 2 ^ (n - k) ≤ room
 
-  pub batch-in : batchAnswer n k rows reading words slots bytes room ≡ Done → Passed
-  unfolding batchAnswer listsAnswer
+  pub batch-in : decodeAnswer n k rows reading words slots bytes room ≡ Done → Passed
+  unfolding decodeAnswer listsAnswer
   batch-in e =
       let (a, e1) = andThen-done (matrixAnswer n k rows) _ e in
       let (b, e2) = andThen-done (radiusAnswer reading (dmin rows)) _ e1 in
@@ -95,20 +95,41 @@ module _ (n k : ℕ) (rows : List ℕ) (reading : Reading) (words : List ℕ) (s
         work = leb-true (2 ^ (n - k)) room (unless-done (leb (2 ^ (n - k)) room) ShortWork Done e3 .0);
       }
 
--- ---- none of these causes is number 11
+-- ---- each of these causes has a number from 1 to 9
 
-pub batch-early : (n k : ℕ) (rows : List ℕ) (reading : Reading) (words : List ℕ) (slots bytes room : ℕ) (c : Refusal)
-    → batchAnswer n k rows reading words slots bytes room ≡ Refused c → eqb (numberOf c) 11 ≡ false
-unfolding batchAnswer listsAnswer listAnswer
-batch-early n k rows reading words slots bytes room =
-    early-andThen (matrixAnswer n k rows) _ (early-matrix n k rows)
-    (early-andThen (radiusAnswer reading (dmin rows)) _ (radius reading)
-    (early-andThen (listAnswer words n (min slots bytes)) _
-    (early-unless (leb (length words) maxWords) TooManyWords _ refl
-    (early-unless (eqb (firstOutside n words) (length words)) (WordOutside (firstOutside n words)) _ refl
-    (early-unless (leb (length words) (min slots bytes)) ShortOutput Done refl early-done)))
-    (early-unless (leb (2 ^ (n - k)) room) ShortWork Done refl early-done)))
-  where
-    radius : (reading : Reading) → Early (radiusAnswer reading (dmin rows))
-    radius Nearest = early-done
-    radius (Within r) = early-unless (leb (2 * r + 1) (dmin rows)) RadiusTooLarge Done refl early-done
+abbrev OneToNine : Answer → Type 0
+OneToNine Done = Unit {0}
+OneToNine (Refused c) = (1 ≤ numberOf c) × (numberOf c ≤ 9)
+
+unless-numbered : (b : Bool) (c : Refusal) (later : Answer) → (1 ≤ numberOf c) × (numberOf c ≤ 9) → OneToNine later → OneToNine (unless b c later)
+unless-numbered true c later h f = f
+unless-numbered false c later h f = h
+
+andThen-numbered : (a later : Answer) → OneToNine a → OneToNine later → OneToNine (andThen a later)
+andThen-numbered Done later f g = g
+andThen-numbered (Refused c) later f g = f
+
+radius-numbered : (reading : Reading) (d : ℕ) → OneToNine (radiusAnswer reading d)
+radius-numbered Nearest d = tt
+radius-numbered (Within r) d = unless-numbered (leb (2 * r + 1) d) RadiusTooLarge Done (omega arith, omega arith) tt
+
+decode-numbered : (n k : ℕ) (rows : List ℕ) (reading : Reading) (words : List ℕ) (slots bytes room : ℕ)
+    → OneToNine (decodeAnswer n k rows reading words slots bytes room)
+unfolding decodeAnswer matrixAnswer shapeAnswer listsAnswer listAnswer
+decode-numbered n k rows reading words slots bytes room =
+    andThen-numbered (matrixAnswer n k rows) _
+    (andThen-numbered (shapeAnswer n k rows) _
+    (unless-numbered (inRange n k) OutOfRange _ (omega arith, omega arith)
+    (unless-numbered (eqb (length rows) k) RowCount _ (omega arith, omega arith)
+    (unless-numbered (eqb (firstOutside n rows) (length rows)) (RowOutside (firstOutside n rows)) Done (omega arith, omega arith) tt)))
+    (unless-numbered (eqb (firstDependent rows) (length rows)) (Dependent (firstDependent rows)) Done (omega arith, omega arith) tt))
+    (andThen-numbered (radiusAnswer reading (dmin rows)) _ (radius-numbered reading (dmin rows))
+    (andThen-numbered (listAnswer words n (min slots bytes)) _
+    (unless-numbered (leb (length words) maxWords) TooManyWords _ (omega arith, omega arith)
+    (unless-numbered (eqb (firstOutside n words) (length words)) (WordOutside (firstOutside n words)) _ (omega arith, omega arith)
+    (unless-numbered (leb (length words) (min slots bytes)) ShortOutput Done (omega arith, omega arith) tt)))
+    (unless-numbered (leb (2 ^ (n - k)) room) ShortWork Done (omega arith, omega arith) tt)))
+
+pub refused-number : (n k : ℕ) (rows : List ℕ) (reading : Reading) (words : List ℕ) (slots bytes room : ℕ) (c : Refusal)
+    → decodeAnswer n k rows reading words slots bytes room ≡ Refused c → (1 ≤ numberOf c) × (numberOf c ≤ 9)
+refused-number n k rows reading words slots bytes room c e = rw e at (decode-numbered n k rows reading words slots bytes room)

@@ -1,4 +1,4 @@
--- The causes of Decode, in order: 1 to 4, 5 within a radius, 6 to 8, 9, and 11.
+-- The causes of Decode, in order: 1 to 4, 5 within a radius, 6 to 8, and 9.
 use mathlib.Core.List.{List}
 use Prim.Native.Nat.{ℕ, _+_, _-_, _*_, _^_, min}
 use lib.Dec.{leb}
@@ -9,7 +9,7 @@ use Rattle.words.specs.Lists.{listAnswer}
 use Rattle.words.specs.declared.answer.Refusal.the-variants.{RadiusTooLarge}
 use Rattle.words.specs.declared.answer.Answer.{Answer}
 use Rattle.words.specs.declared.answer.Answer.the-variants.{Done}
-use Rattle.leaders.specs.Leaders.{workAnswer, leaderAnswer}
+use Rattle.leaders.specs.Leaders.{workAnswer}
 use Rattle.outcomes.specs.declared.outcome.Reading.{Reading}
 use Rattle.outcomes.specs.declared.outcome.Reading.the-variants.{Nearest, Within}
 
@@ -22,11 +22,7 @@ radiusAnswer (Within r) d = unless (leb (2 * r + 1) d) RadiusTooLarge Done
 unfoldable pub listsAnswer : ℕ → ℕ → List ℕ → ℕ → ℕ → ℕ → Answer
 listsAnswer n k words slots bytes room = andThen (listAnswer words n (min slots bytes)) (workAnswer room (2 ^ (n - k)))
 
--- causes 1 to 9
-unfoldable pub batchAnswer : ℕ → ℕ → List ℕ → Reading → List ℕ → ℕ → ℕ → ℕ → Answer
-batchAnswer n k rows reading words slots bytes room =
+-- causes 1 to 9: all causes of Decode
+unfoldable pub decodeAnswer : ℕ → ℕ → List ℕ → Reading → List ℕ → ℕ → ℕ → ℕ → Answer
+decodeAnswer n k rows reading words slots bytes room =
     andThen (matrixAnswer n k rows) (andThen (radiusAnswer reading (dmin rows)) (listsAnswer n k words slots bytes room))
-
--- all causes of Decode
-abbrev pub decodeAnswer : ℕ → ℕ → List ℕ → Reading → List ℕ → ℕ → ℕ → ℕ → Answer
-decodeAnswer n k rows reading words slots bytes room = andThen (batchAnswer n k rows reading words slots bytes room) (leaderAnswer n k rows)

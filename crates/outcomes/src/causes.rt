@@ -12,7 +12,7 @@ ghost use Rattle.coding.specs.Weight.{dmin};
 ghost use Rattle.words.specs.Limits.{InRange};
 ghost use Rattle.words.specs.Refusal.{ifDone};
 ghost use Rattle.linear.specs.Accepted.{Accepted};
-ghost use Rattle.outcomes.specs.Causes.{radiusAnswer, listsAnswer, batchAnswer};
+ghost use Rattle.outcomes.specs.Causes.{radiusAnswer, listsAnswer, decodeAnswer};
 
 // Cause 5, by the minimum distance. Half of dmin - 1 is compared, so that no radius overflows.
 fn radius_test(reading: Reading, d: u32) -> Answer
@@ -68,7 +68,7 @@ pub fn batch_cause(
     bytes: usize,
     room: usize,
 ) -> Answer
-    ensures { λ r. ⌜ r ≡ batchAnswer n k (now (rows .entry)) reading (now (words .entry)) slots bytes room ⌝ }
+    ensures { λ r. ⌜ r ≡ decodeAnswer n k (now (rows .entry)) reading (now (words .entry)) slots bytes room ⌝ }
 {
     let a = accept(n, k, rows);
     let Answer::Done = a else {
@@ -88,7 +88,7 @@ pub struct Measured {
 }
 
 // A refusal without a distance.
-pub fn unmeasured(answer: Answer) -> Measured
+fn unmeasured(answer: Answer) -> Measured
     ensures { λ r. ⌜ (r .answer ≡ answer) × (r .dmin ≡ 0) ⌝ }
 {
     Measured { answer, dmin: 0 }
@@ -105,7 +105,7 @@ pub fn measured_cause(
     bytes: usize,
     room: usize,
 ) -> Measured
-    ensures { λ r. ⌜ r .answer ≡ batchAnswer n k (now (rows .entry)) reading (now (words .entry)) slots bytes room ⌝ }
+    ensures { λ r. ⌜ r .answer ≡ decodeAnswer n k (now (rows .entry)) reading (now (words .entry)) slots bytes room ⌝ }
     ensures { λ r. ⌜ r .dmin ≡ ifDone (r .answer) (dmin (now (rows .entry))) 0 ⌝ }
 {
     let w = weights_of(n, k, rows);

@@ -19,12 +19,10 @@ use Rattle.linear.specs.Accepted.{Accepted}
 use Rattle.words.specs.declared.answer.Refusal.{Refusal}
 use Rattle.words.specs.declared.answer.Answer.{Answer}
 use Rattle.words.specs.declared.answer.Answer.the-variants.{Done, Refused}
-use Rattle.words.proofs.ShapeLaws.{andThen-done}
 use Rattle.linear.proofs.AcceptLaws.{accepted-in}
 use Rattle.weights.proofs.DescribeLaws.{distance-is}
 use Rattle.outcomes.specs.Outcome.{takes, outcomeOf, wordIn, countIn}
-use Rattle.outcomes.specs.Causes.{batchAnswer, decodeAnswer}
-use Rattle.leaders.specs.Leaders.{leaderAnswer}
+use Rattle.outcomes.specs.Causes.{decodeAnswer}
 use Rattle.decoder.specs.Decoded.{decodedAs, wordOf, countOf, Decoded}
 use Rattle.outcomes.specs.declared.outcome.Reading.{Reading}
 use Rattle.outcomes.specs.declared.outcome.Outcome.{Outcome}
@@ -77,9 +75,7 @@ module _ {n k : ℕ} {rows : List ℕ} {reading : Reading} {words : List ℕ} {r
 
   module _ (d : r ≡ Done) where
     passed : Passed n k rows reading words maxWords maxWords (2 ^ maxChecks)
-    passed =
-        batch-in n k rows reading words maxWords maxWords (2 ^ maxChecks)
-        (andThen-done (batchAnswer n k rows reading words maxWords maxWords (2 ^ maxChecks)) (leaderAnswer n k rows) (sym answer-is ∙ d) .0)
+    passed = batch-in n k rows reading words maxWords maxWords (2 ^ maxChecks) (sym answer-is ∙ d)
 
     accepted : Accepted n k rows
     accepted = accepted-in n k rows (passed .matrix)

@@ -21,8 +21,7 @@ use Rattle.words.specs.declared.answer.Answer.{Answer}
 use Rattle.words.specs.declared.answer.Answer.the-variants.{Done, Refused}
 use Rattle.words.proofs.ShapeLaws.{range-in}
 use Rattle.linear.proofs.AcceptLaws.{shape-refused}
-use Rattle.outcomes.specs.Causes.{radiusAnswer, listsAnswer, batchAnswer, decodeAnswer}
-use Rattle.leaders.specs.Leaders.{leaderAnswer}
+use Rattle.outcomes.specs.Causes.{radiusAnswer, listsAnswer, decodeAnswer}
 use Rattle.outcomes.specs.declared.outcome.Reading.{Reading}
 use Rattle.outcomes.proofs.CauseLaws.{at-matrix}
 use Rattle.sheet_run.specs.Output.{linesOf, batchOutput}
@@ -44,25 +43,17 @@ module _ (n k : ℕ) (reading : Reading) where
   abbrev decodes : List ℕ → List ℕ → Answer
   decodes rows words = decodeAnswer n k rows reading words maxWords maxWords (2 ^ maxChecks)
 
-  abbrev batch : List ℕ → List ℕ → Answer
-  batch rows words = batchAnswer n k rows reading words maxWords maxWords (2 ^ maxChecks)
-
-  refused-batch : (rows words : List ℕ) (c : Refusal) → batch rows words ≡ Refused c → decodes rows words ≡ Refused c
-  refused-batch rows words c e = ap (λ (a : Answer). andThen a (leaderAnswer n k rows)) e
-
   -- many rows
   many-rows : (rows words : List ℕ) (c : Refusal) → maxRows < length rows → unless (inRange n k) OutOfRange (Refused RowCount) ≡ Refused c
       → decodes rows words ≡ Refused c
-  many-rows rows words c h e =
-      refused-batch rows words c
-      (sym (at-matrix n k rows reading words maxWords maxWords (2 ^ maxChecks) c (shape-refused n k rows c (shapes n k rows h ∙ e))))
+  many-rows rows words c h e = sym (at-matrix n k rows reading words maxWords maxWords (2 ^ maxChecks) c (shape-refused n k rows c (shapes n k rows h ∙ e)))
 
   -- many words: the causes before, or cause 6
   abbrev before-words : List ℕ → Answer
   before-words rows = andThen (matrixAnswer n k rows) (andThen (radiusAnswer reading (dmin rows)) (Refused TooManyWords))
 
-  many-words : (rows words : List ℕ) → maxWords < length words → batch rows words ≡ before-words rows
-  unfolding batchAnswer listsAnswer listAnswer
+  many-words : (rows words : List ℕ) → maxWords < length words → decodes rows words ≡ before-words rows
+  unfolding decodeAnswer listsAnswer listAnswer
   many-words rows words h = rw (lt-leb (length words) maxWords h) refl
 
   refuses : (a : Answer) (c : Refusal) → (d : Refusal) × (andThen a (Refused c) ≡ Refused d)
@@ -95,5 +86,4 @@ module _ (n k : ℕ) (reading : Reading) where
           let (c, e) = before-refused rows in
           let long : length (take 513 words) ≡ 513 = length-take-le 513 words (omega arith) in
           rw (take-all 33 rows r)
-          (same-output rows (take 513 words) rows words c (refused-batch rows (take 513 words) c (many-words rows (take 513 words) (omega arith) ∙ e))
-          (refused-batch rows words c (many-words rows words (omega arith) ∙ e)))
+          (same-output rows (take 513 words) rows words c (many-words rows (take 513 words) (omega arith) ∙ e) (many-words rows words (omega arith) ∙ e))

@@ -46,5 +46,8 @@ pub kept : (r : Answer) (c : Refusal) → r ≡ Refused c → (new old : List �
 kept r c e new old = rw e refl
 
 -- a success writes the new entries and keeps the later slots
+pub filled : (new old after : List ℕ) (m : ℕ) → length new ≡ m → after ≡ new ++ drop m old → after ≡ onDone Done new old
+filled new old after m l e = e ∙ ap (λ (k : ℕ). new ++ drop k old) (sym l)
+
 pub written : (f : ℕ → ℕ) (ws old after : List ℕ) → after ≡ map f ws ++ drop (length ws) old → after ≡ onDone Done (map f ws) old
-written f ws old after e = e ∙ ap (λ (k : ℕ). map f ws ++ drop k old) (sym (length-map ws f))
+written f ws old after e = filled (map f ws) old after (length ws) (length-map ws f) e

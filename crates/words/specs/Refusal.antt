@@ -4,10 +4,11 @@ use mathlib.Core.Bool.{Bool, true, false}
 use Prim.Native.Nat.{ℕ}
 use lib.ListN.{length, drop}
 use Rattle.words.specs.declared.answer.Refusal.{Refusal}
-use Rattle.words.specs.declared.answer.Refusal.the-variants.{OutOfRange, RowCount, RowOutside, Dependent, RadiusTooLarge, TooManyWords, WordOutside, ShortOutput, ShortWork, NoCodeword, NoLeader}
+use Rattle.words.specs.declared.answer.Refusal.the-variants.{OutOfRange, RowCount, RowOutside, Dependent, RadiusTooLarge, TooManyWords, WordOutside, ShortOutput, ShortWork, NoCodeword}
 use Rattle.words.specs.declared.answer.Answer.{Answer}
 use Rattle.words.specs.declared.answer.Answer.the-variants.{Done, Refused}
 
+-- 11 stays unused
 abbrev pub numberOf : Refusal → ℕ
 numberOf OutOfRange = 1
 numberOf RowCount = 2
@@ -19,7 +20,6 @@ numberOf (WordOutside i) = 7
 numberOf ShortOutput = 8
 numberOf ShortWork = 9
 numberOf (NoCodeword i) = 10
-numberOf (NoLeader s) = 11
 
 abbrev pub valueOf : Refusal → ℕ
 valueOf OutOfRange = 0
@@ -32,7 +32,6 @@ valueOf (WordOutside i) = i
 valueOf ShortOutput = 0
 valueOf ShortWork = 0
 valueOf (NoCodeword i) = i
-valueOf (NoLeader s) = s
 
 -- the cause refuses where its test fails; otherwise the later causes decide
 abbrev pub unless : Bool → Refusal → Answer → Answer

@@ -14,7 +14,6 @@ pub enum Refusal {
     ShortOutput,
     ShortWork,
     NoCodeword(usize),
-    NoLeader(usize),
 }
 
 pub enum Answer {
@@ -37,7 +36,6 @@ pub fn number(r: Refusal) -> u32
         Refusal::ShortOutput => 8,
         Refusal::ShortWork => 9,
         Refusal::NoCodeword(_) => 10,
-        Refusal::NoLeader(_) => 11,
     }
 }
 
@@ -56,6 +54,5 @@ pub fn value(r: Refusal) -> usize
         Refusal::ShortOutput => 0,
         Refusal::ShortWork => 0,
         Refusal::NoCodeword(i) => i,
-        Refusal::NoLeader(s) => s,
     }
 }

@@ -1,6 +1,6 @@
 //! The library, called through this crate, against the plain implementation of `plain`: on random inputs, valid and damaged,
 //! every answer with its value and every slot of every list. Each test demands that every cause that can arise has arisen, with
-//! its values.
+//! its values, and no other: 11 is none.
 //!
 //! The inputs are the same at each run. RELAY_SEED=NUMBER, decimal and below 2^64, gives others, each number its own; an empty
 //! one is as none, and anything else fails every test. A failing test prints the seed it had.

@@ -1,6 +1,5 @@
 -- `decoder::batch::decode_measured`: the causes with the minimum distance, then the words. Assumes nothing.
 use mathlib.Core.Path.{sym, _∙_}
-use Rattle.outcomes.proofs.CauseLaws.{no-dmin}
 use Rattle.decoder.proofs.PromiseLaws.{decode-refused}
 use borrow.Author.Needs.{needs}
 use Rattle.decoder.proofs.batch.decode_measured.Statement.{statement}
@@ -29,15 +28,6 @@ decode-passed-requires c κs =
     let t = c .before .before .before in
     sym (t .before .before .measured-cause .ensures .0) ∙ t .enum-told .given .1
 
-enum-told-3 : tie.Need-enum-told-3
-enum-told-3 c = search needs
-
-enum-told-4 : tie.Need-enum-told-4
-enum-told-4 c = search needs
-
-unmeasured-requires : tie.Need-unmeasured-requires
-unmeasured-requires c κs = search needs
-
 same-length : tie.Need-same-length
 same-length c = search needs
 
@@ -49,23 +39,10 @@ same-length-3 c = search needs
 
 returns-2 : tie.Need-returns-2
 returns-2 c =
-    let u = c .unmeasured .ensures in
-    (rw (u .0) (c .before .before .before .before .before .before .before .before .before .decode-passed .ensures), u .1 ∙ no-dmin _ _ _ (u .0 ∙ c .before .enum-told4 .given .1))
-
-same-length-4 : tie.Need-same-length-4
-same-length-4 c = search needs
-
-same-length-5 : tie.Need-same-length-5
-same-length-5 c = search needs
-
-same-length-6 : tie.Need-same-length-6
-same-length-6 c = search needs
-
-returns-3 : tie.Need-returns-3
-returns-3 c =
-    let m = c .before .before .before .before .before .before .before .before .before .before .before .before .before .before .measured-cause in
-    let d = rw (c .before .before .before .before .before .before .before .before .before .before .before .before .enum-told .given .1) at (m .ensures .1) in
-    (c .before .before .before .before .before .before .before .before .decode-passed .ensures, rw (c .enum-told3 .given .1) d)
+    let q = c .before .before .before .before .before .before in
+    let t = q .before .before .before .before in
+    let m = t .before .before .measured-cause in
+    (rw (t .enum-told .given .1) (q .decode-passed .ensures), m .ensures .1)
 
 pub decode-measured-spec : {M : Type 1} → statement M
 decode-measured-spec =
@@ -76,14 +53,7 @@ decode-measured-spec =
     enum-told-2
     returns
     decode-passed-requires
-    enum-told-3
-    enum-told-4
-    unmeasured-requires
     same-length
     same-length-2
     same-length-3
-    returns-2
-    same-length-4
-    same-length-5
-    same-length-6
-    returns-3)
+    returns-2)

@@ -1,8 +1,7 @@
 -- `decoder::batch::decode_passed`: the leaders, then the words. Assumes nothing.
-use mathlib.Core.Path.{sym, _∙_}
+use mathlib.Core.Path.{sym}
 use native.Mathlib.Omega.{arith}
-use Rattle.words.proofs.ShapeLaws.{refused-done}
-use Rattle.decoder.proofs.StepLaws.{Past, rows-fit, checks-fit, size-is, words-fit, leaders-done, lent-long, work-long, syndromes-fit, decode-ends}
+use Rattle.decoder.proofs.StepLaws.{Past, rows-fit, checks-fit, size-is, words-fit, lent-long, work-long, syndromes-fit, decode-ends}
 use borrow.Author.Needs.{needs}
 use Rattle.decoder.proofs.batch.decode_passed.Statement.{statement}
 use Rattle.decoder.proofs.batch.decode_passed.Tie as tie
@@ -15,24 +14,9 @@ known s = record { passed = s .pre }
 leaders-of-requires : tie.Need-leaders-of-requires
 leaders-of-requires c κs = search needs
 
-enum-told : tie.Need-enum-told
-enum-told c = search needs
-
-enum-told-2 : tie.Need-enum-told-2
-enum-told-2 c = search needs
-
-same-length : tie.Need-same-length
-same-length c = search needs
-
-returns : tie.Need-returns
-returns c =
-    let v = c .before .before .before .before in
-    let g = known (v .before .before .before .before .before .before .before) in
-    refused-done (sym (c .enum-told2 .given .1) ∙ leaders-done g (v .leaders-of .ensures))
-
 sub-size : tie.Need-sub-size
 sub-size c =
-    let v = c .before .before .before .before .before in
+    let v = c .before .before .before in
     let g = known (v .before .before .before .before .before .before .before) in
     rows-fit g
 
@@ -41,27 +25,30 @@ cast-size c = search needs
 
 shl-size : tie.Need-shl-size
 shl-size c =
-    let v = c .before .before .before .before .before in
+    let v = c .before .before .before in
     let g = known (v .before .before .before .before .before .before .before) in
     omega (arith, checks-fit g)
 
 slice-reshare-prefix-decode-words : tie.Need-slice-reshare-prefix-decode-words
 slice-reshare-prefix-decode-words c =
-    let v = c .before .before .before .before .before .before in
+    let v = c .before .before .before .before in
     let g = known (v .before .before .before .before .before .before .before) in
     rw (size-is g) (work-long g (v .leaders-of .ensures))
 
 slice-aggregate-decode-words : tie.Need-slice-aggregate-decode-words
 slice-aggregate-decode-words c =
-    let v = c .before .before .before .before .before .before .before in
+    let v = c .before .before .before .before .before in
     let g = known (v .before .before .before .before .before .before .before) in
     rw (size-is g) (sym (lent-long g (v .leaders-of .ensures)))
 
 decode-words-requires : tie.Need-decode-words-requires
 decode-words-requires c κs =
-    let v = c .before .before .before .before .before .before .before .before .before in
+    let v = c .before .before .before .before .before .before .before in
     let g = known (v .before .before .before .before .before .before .before) in
     (words-fit g, rw (size-is g) (syndromes-fit g (v .leaders-of .ensures)))
+
+same-length : tie.Need-same-length
+same-length c = search needs
 
 same-length-2 : tie.Need-same-length-2
 same-length-2 c = search needs
@@ -69,13 +56,10 @@ same-length-2 c = search needs
 same-length-3 : tie.Need-same-length-3
 same-length-3 c = search needs
 
-same-length-4 : tie.Need-same-length-4
-same-length-4 c = search needs
-
-returns-2 : tie.Need-returns-2
-returns-2 c =
+returns : tie.Need-returns
+returns c =
     let w = c .before .before .before .before in
-    let v = w .before .before .before .before .before .before .before .before .before .before in
+    let v = w .before .before .before .before .before .before .before .before in
     let g = known (v .before .before .before .before .before .before .before) in
     decode-ends g (v .leaders-of .ensures) _ _ (rw (size-is g) at (w .decode-words .ensures .0)) (rw (size-is g) at (w .decode-words .ensures .1))
 
@@ -84,17 +68,13 @@ decode-passed-spec =
     tie.close
     (tie.spec
     leaders-of-requires
-    enum-told
-    enum-told-2
-    same-length
-    returns
     sub-size
     cast-size
     shl-size
     slice-reshare-prefix-decode-words
     slice-aggregate-decode-words
     decode-words-requires
+    same-length
     same-length-2
     same-length-3
-    same-length-4
-    returns-2)
+    returns)

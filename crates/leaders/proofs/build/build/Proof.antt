@@ -27,22 +27,16 @@ fill-list-requires c κs =
       encode-lt (s .args .c) (columnsOf checks) (columns-inside checks (s .args .c) (s .pre .3)),
     )
 
-first-blank-requires : tie.Need-first-blank-requires
-first-blank-requires c κs = search needs
-
 same-length : tie.Need-same-length
 same-length c = search needs
 
 returns : tie.Need-returns
 returns c =
-    let f = c .before .before .before .before in
-    let s = c .before .before .before .before .before .before .before .before .before in
+    let f = c .before .before in
+    let s = c .before .before .before .before .before .before .before in
     let e = f .before .before .before .columns .ensures in
-    record {
-      filled = f .fill-list .ensures ∙ ap (λ (m : ℕ). fills (encode (f .before .before .before .columns .result)) (blanks m) (order (s .args .n) (suc (s .args .c)))) (s .pre .2)
-          ∙ ap (λ (h : List ℕ). fills (encode h) (blanks (2 ^ s .args .c)) (order (s .args .n) (suc (s .args .c)))) e;
-      blank = c .first-blank .ensures;
-    }
+    f .fill-list .ensures ∙ ap (λ (m : ℕ). fills (encode (f .before .before .before .columns .result)) (blanks m) (order (s .args .n) (suc (s .args .c)))) (s .pre .2)
+    ∙ ap (λ (h : List ℕ). fills (encode h) (blanks (2 ^ s .args .c)) (order (s .args .n) (suc (s .args .c)))) e
 
 pub build-spec : {M : Type 1} → statement M
 build-spec =
@@ -50,6 +44,5 @@ build-spec =
     (tie.spec
     columns-requires
     fill-list-requires
-    first-blank-requires
     same-length
     returns)

@@ -107,7 +107,8 @@ returns c =
     let s = i .before .before in
     let a = s .args in
     let U = stored-at i (c .before .if1 .taken) in
-    units-full (a .list .now) (a .cols .now) (a .m) (a .prefix) (a .s) (a .blank) (s .pre) _ (l .p + 1) (rw (c .if2 .taken) at U)
+    let z : l .left - 1 ≡ 0 = omega (arith, c .if2 .taken) in
+    units-full (a .list .now) (a .cols .now) (a .m) (a .prefix) (a .s) (a .blank) (s .pre) _ (l .p + 1) (rw z at U)
 
 add-p : tie.Need-add-p Inv-loop μ-loop
 add-p c = record { fits = omega (arith, c .before .before .before .loop-test .taken, c .before .before .before .before .before .pre .places) }

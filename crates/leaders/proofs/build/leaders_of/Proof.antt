@@ -1,4 +1,4 @@
--- `leaders::build::leaders_of`: the causes in order, then the build, which leaves no entry blank. Assumes nothing.
+-- `leaders::build::leaders_of`: the causes in order, then the build. Assumes nothing.
 use mathlib.Core.Path.{_≡_, refl, sym, _∙_}
 use Prim.Native.Nat.{_-_, _^_, _≤_, _<_}
 use native.Mathlib.Omega.{arith}
@@ -9,8 +9,7 @@ use Rattle.coding.specs.Check.{checks}
 use Rattle.words.specs.Limits.{maxChecks}
 use Rattle.linear.specs.Accepted.{Accepted}
 use Rattle.linear.proofs.AcceptLaws.{accepted-in}
-use Rattle.leaders.proofs.EarlyLaws.{early-matrix}
-use Rattle.leaders.proofs.BuiltLaws.{checks-below, leaders-are, none-blank}
+use Rattle.leaders.proofs.BuiltLaws.{checks-below, leaders-are}
 use Rattle.leaders.proofs.PromiseLaws.{matrix-refuses, leaders-refused, size-is, short-refuses, leaders-written}
 use borrow.Author.Needs.{needs}
 use Rattle.leaders.proofs.build.leaders_of.Statement.{statement}
@@ -35,7 +34,7 @@ returns c =
     let e = c .before .enum-told2 .given .1 in
     let m = sym (p .parity-checks .ensures .answer) ∙ e in
     leaders-refused (a .n) (a .k) (a .rows .now) (a .list .now) _ _ (c .refused .ensures .0 ∙ e) (c .refused .ensures .1)
-    (early-matrix (a .n) (a .k) (a .rows .now) _ m) (matrix-refuses (a .n) (a .k) (a .rows .now) (length (a .list .now)) _ m)
+    (matrix-refuses (a .n) (a .k) (a .rows .now) (length (a .list .now)) _ m)
 
 -- the matrix is accepted
 accepted : (t : tie.After-enum-told)
@@ -61,7 +60,7 @@ returns-2 c =
     let t = c .before .before in
     let a = t .before .before .before .before .before .args in
     let short : length (a .list .now) < 2 ^ (a .n - a .k) = rw (size-is (a .n) (a .k) (a .rows .now) (accepted t)) at (c .before .if1 .taken) in
-    leaders-refused (a .n) (a .k) (a .rows .now) (a .list .now) _ _ (c .refused2 .ensures .0) (c .refused2 .ensures .1) refl
+    leaders-refused (a .n) (a .k) (a .rows .now) (a .list .now) _ _ (c .refused2 .ensures .0) (c .refused2 .ensures .1)
     (short-refuses (a .n) (a .k) (a .rows .now) (accepted t) (length (a .list .now)) short)
 
 -- the list is long enough, and the check rows are those of the matrix
@@ -103,34 +102,19 @@ build-requires c κs =
       λ w. rw (rows-are (e .before)) (checks-below (a .n) (a .k) (a .rows .now) A w),
     )
 
-refused-requires-3 : tie.Need-refused-requires-3
-refused-requires-3 c κs = search needs
-
 same-length : tie.Need-same-length
 same-length c = search needs
 
 returns-3 : tie.Need-returns-3
 returns-3 c =
-    let b = c .before .before .before .before in
-    let t = b .before .before .before .before .before in
-    let a = t .before .before .before .before .before .args in
-    let A = accepted t in
-    absurd (c .before .if2 .taken
-    (none-blank (a .n) (a .k) (a .rows .now) A _ _ (rw (rows-are t) at (b .build .ensures)) ∙ sym (size-is (a .n) (a .k) (a .rows .now) A)))
-
-same-length-2 : tie.Need-same-length-2
-same-length-2 c = search needs
-
-returns-4 : tie.Need-returns-4
-returns-4 c =
-    let b = c .before .before .before in
+    let b = c .before .before in
     let e = b .before .before .before .before in
     let t = e .before in
     let a = t .before .before .before .before .before .args in
     let A = accepted t in
     rw (size-is (a .n) (a .k) (a .rows .now) A)
     (leaders-written (a .n) (a .k) (a .rows .now) A (a .list .now) (room e) _ refl (rw (t .enum-told .given .1) at (t .before .before .parity-checks .ensures)) _
-    (leaders-are (a .n) (a .k) (a .rows .now) A _ _ (rw (rows-are t) at (b .build .ensures))))
+    ((rw (rows-are t) at (b .build .ensures)) ∙ leaders-are (a .n) (a .k) (a .rows .now) A))
 
 pub leaders-of-spec : {M : Type 1} → statement M
 leaders-of-spec =
@@ -151,8 +135,5 @@ leaders-of-spec =
     slice-relend-prefix-build
     slice-aggregate-build
     build-requires
-    refused-requires-3
     same-length
-    returns-3
-    same-length-2
-    returns-4)
+    returns-3)

@@ -5,7 +5,7 @@ use Rattle.coding.specs.Weight.{dmin}
 use Rattle.linear.specs.Accepted.{matrixAnswer}
 use Rattle.words.specs.declared.answer.Answer.the-variants.{Done}
 use Rattle.linear.proofs.AcceptLaws.{accepted-in}
-use Rattle.outcomes.specs.Causes.{radiusAnswer, batchAnswer}
+use Rattle.outcomes.specs.Causes.{radiusAnswer, decodeAnswer}
 use Rattle.outcomes.proofs.CauseLaws.{measured-is, no-dmin, at-matrix, at-radius, at-lists}
 use borrow.Author.Needs.{needs}
 use Rattle.outcomes.proofs.causes.measured_cause.Statement.{statement}
@@ -33,7 +33,7 @@ measured c = measured-is (c .before .before .weights-of .ensures) (c .enum-told 
 -- cause 5 too: causes 6 to 9 decide
 listed : (c : tie.After-lists-cause)
     → let a = c .before .before .before .before .before .before .before .before .before .args in
-    c .lists-cause .result ≡ batchAnswer (a .n) (a .k) (a .rows .now) (a .reading) (a .words .now) (a .slots) (a .bytes) (a .room)
+    c .lists-cause .result ≡ decodeAnswer (a .n) (a .k) (a .rows .now) (a .reading) (a .words .now) (a .slots) (a .bytes) (a .room)
 listed c =
     let a = c .before .before .before .before .before .before .before .before .before .args in
     let q = c .before .before .before .radius-test .ensures ∙ ap (radiusAnswer (a .reading)) (measured (c .before .before .before .before) .0) in
