@@ -1,8 +1,8 @@
 use core::fmt;
 
-/// Why a call was refused: the first cause that applies. Where a cause names a row, a word or a byte, that is its value.
-/// Later versions may have more cases; [`number`](Refusal::number) and [`value`](Refusal::value) are those of the
-/// specification in each.
+/// Why a call was refused: the first cause that applies. Where a cause names a row, a word or a byte, that is its value. Later
+/// versions may have more cases; [`number`](Refusal::number) and [`value`](Refusal::value) are those of the specification in each.
+/// The number 11 stays unused.
 #[derive(Clone, Copy, Debug, PartialEq, Eq, Hash)]
 #[non_exhaustive]
 pub enum Refusal {

@@ -60,7 +60,7 @@ module _ (prefix m a : ℕ) (above : prefix ≡ a * 2 ^ m) (p : ℕ) (h : p < m)
       ap (encode cols) (sym sum-place) ∙ encode-xor cols prefix (2 ^ p) ∙ ap (λ (x : ℕ). encode cols prefix ⊕ x) (row-message cols p l)
 
 -- a word lighter than 32 is not the blank entry
-pub light-word : (w : ℕ) → weight w < 32 → w ≢ noLeader
+light-word : (w : ℕ) → weight w < 32 → w ≢ noLeader
 light-word w h e = omega (arith, ap weight e ∙ ones-ones 32)
 
 -- ---- the words prefix + 2 ^ p, one after the other
