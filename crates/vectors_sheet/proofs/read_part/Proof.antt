@@ -15,31 +15,11 @@ longer r front rest h =
     let k : r ≤ length (front ++ rest) = omega (arith, length-append front rest) in
     (k, sym (length-take-le r (front ++ rest) k))
 
-returns : tie.Need-returns
-returns c = search needs
-
-slice-relend-prefix-read-full : tie.Need-slice-relend-prefix-read-full
-slice-relend-prefix-read-full c = search needs
-
-slice-aggregate-read-full : tie.Need-slice-aggregate-read-full
-slice-aggregate-read-full c = sym (length-take-le _ _ (c .before .if1 .left))
-
-read-full-requires : tie.Need-read-full-requires
-read-full-requires c κs = search needs
-
-same-length : tie.Need-same-length
-same-length c = search needs
-
 returns-2 : tie.Need-returns-2
 returns-2 c = longer (c .before .before .read-full .result) (c .before .before .read-full .last .1 .0) _ (c .before .before .read-full .ensures .0)
 
 pub read-part-spec : {M : Type 1} → statement M
 read-part-spec =
     tie.close
-    (tie.spec
-    returns
-    slice-relend-prefix-read-full
-    slice-aggregate-read-full
-    read-full-requires
-    same-length
-    returns-2)
+    (tie.spec (λ c. search needs) (λ c. search needs) (λ c. sym (length-take-le _ _ (c .before .if1 .left))) (λ c κs. search needs)
+    (λ c. search needs) returns-2)

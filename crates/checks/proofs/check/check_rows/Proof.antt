@@ -24,27 +24,6 @@ abbrev μ-loop : tie.MeasureT-loop
 loop-holds : tie.Need-loop-holds Inv-loop μ-loop
 loop-holds c = (search needs, search needs, packed-start maxChecks (checksFrom (c .before .args .table .now) (c .before .args .n) 0))
 
-mul-if1 : tie.Need-mul-if1 Inv-loop μ-loop
-mul-if1 c = search needs
-
-shared-slice-read-if1 : tie.Need-shared-slice-read-if1 Inv-loop μ-loop
-shared-slice-read-if1 c = search needs
-
-cast-checks : tie.Need-cast-checks Inv-loop μ-loop
-cast-checks c = search needs
-
-shl-checks : tie.Need-shl-checks Inv-loop μ-loop
-shl-checks c = search needs
-
-cast-column : tie.Need-cast-column Inv-loop μ-loop
-cast-column c = search needs
-
-column-requires : tie.Need-column-requires Inv-loop μ-loop
-column-requires c κs = search needs
-
-mul-checks : tie.Need-mul-checks Inv-loop μ-loop
-mul-checks c = search needs
-
 array-write-checks : tie.Need-array-write-checks Inv-loop μ-loop
 array-write-checks c =
     let i = c .before .before .before .before in
@@ -52,15 +31,6 @@ array-write-checks c =
     let s = i .before .before in
     check-room (s .args .table .now) (s .args .n) (l .q) (omega arith) (l .checks) (l .j) (l .inv .2) (s .pre .2)
     (c .before .before .before .loop-test .taken) (c .before .if1 .taken)
-
-add-j : tie.Need-add-j Inv-loop μ-loop
-add-j c = search needs
-
-add-q : tie.Need-add-q Inv-loop μ-loop
-add-q c = search needs
-
-loop-less : tie.Need-loop-less Inv-loop μ-loop
-loop-less c = search needs
 
 loop-again : tie.Need-loop-again Inv-loop μ-loop
 loop-again c =
@@ -90,20 +60,6 @@ returns c =
 pub check-rows-spec : {M : Type 1} → statement M
 check-rows-spec =
     tie.close
-    (tie.spec
-    Inv-loop
-    μ-loop
-    loop-holds
-    mul-if1
-    shared-slice-read-if1
-    cast-checks
-    shl-checks
-    cast-column
-    column-requires
-    mul-checks
-    array-write-checks
-    add-j
-    add-q
-    loop-less
-    loop-again
-    returns)
+    (tie.spec Inv-loop μ-loop loop-holds (λ c. search needs) (λ c. search needs) (λ c. search needs) (λ c. search needs)
+    (λ c. search needs) (λ c κs. search needs) (λ c. search needs) array-write-checks (λ c. search needs) (λ c. search needs)
+    (λ c. search needs) loop-again returns)

@@ -11,15 +11,6 @@ use native.Mathlib.Omega.{arith}
 use Rattle.checks.proofs.check.code_of.Statement.{statement}
 use Rattle.checks.proofs.check.code_of.Tie as tie
 
-reduce-requires : tie.Need-reduce-requires
-reduce-requires c κs = search needs
-
-enum-told : tie.Need-enum-told
-enum-told c = search needs
-
-enum-told-2 : tie.Need-enum-told-2
-enum-told-2 c = search needs
-
 returns : tie.Need-returns
 returns c =
     let e = c .enum-told2 .given .1 in
@@ -31,9 +22,6 @@ returns c =
       checks = parity-checks (a .n) (a .k) (a .rows .now) _ m (rw e refl);
       messages = messages-refused (a .n) (a .rows .now) _ _ _ e refl;
     }
-
-slice-aggregate-check-rows : tie.Need-slice-aggregate-check-rows
-slice-aggregate-check-rows c = search needs
 
 check-rows-requires : tie.Need-check-rows-requires
 check-rows-requires c κs =
@@ -65,11 +53,4 @@ returns-2 c =
 pub code-of-spec : {M : Type 1} → statement M
 code-of-spec =
     tie.close
-    (tie.spec
-    reduce-requires
-    enum-told
-    enum-told-2
-    returns
-    slice-aggregate-check-rows
-    check-rows-requires
-    returns-2)
+    (tie.spec (λ c κs. search needs) (λ c. search needs) (λ c. search needs) returns (λ c. search needs) check-rows-requires returns-2)

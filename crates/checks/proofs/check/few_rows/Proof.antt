@@ -35,24 +35,6 @@ all l j h f =
     (λ i k. let m : i < length l - 4 = omega (arith, k, length-drop 4 l) in
     getD-drop 4 l i 0 ∙ f (4 + i) (omega arith) (omega (arith, m)) ∙ sym (getD-replicate {A = ℕ} (length l - 4) i 0 0 m))
 
-loop-holds : tie.Need-loop-holds Inv-loop μ-loop
-loop-holds c = (search needs, λ i h k. absurd (omega arith))
-
-mul-if1 : tie.Need-mul-if1 Inv-loop μ-loop
-mul-if1 c = search needs
-
-shared-slice-read-if1 : tie.Need-shared-slice-read-if1 Inv-loop μ-loop
-shared-slice-read-if1 c = search needs
-
-returns : tie.Need-returns Inv-loop μ-loop
-returns c = λ e. absurd (true-false e refl)
-
-add-j : tie.Need-add-j Inv-loop μ-loop
-add-j c = search needs
-
-loop-less : tie.Need-loop-less Inv-loop μ-loop
-loop-less c = search needs
-
 loop-again : tie.Need-loop-again Inv-loop μ-loop
 loop-again c =
     let l = c .before .before .before in
@@ -64,14 +46,5 @@ returns-2 c = λ _. all (c .before .before .args .checks .now) (c .before .loop 
 pub few-rows-spec : {M : Type 1} → statement M
 few-rows-spec =
     tie.close
-    (tie.spec
-    Inv-loop
-    μ-loop
-    loop-holds
-    mul-if1
-    shared-slice-read-if1
-    returns
-    add-j
-    loop-less
-    loop-again
-    returns-2)
+    (tie.spec Inv-loop μ-loop (λ c. (search needs, λ i h k. absurd (omega arith))) (λ c. search needs) (λ c. search needs)
+    (λ c. λ e. absurd (true-false e refl)) (λ c. search needs) (λ c. search needs) loop-again returns-2)

@@ -12,8 +12,5 @@ slice-aggregate-parities c = sym (length-take-le 4 (c .before .before .args .che
 parities-requires : tie.Need-parities-requires
 parities-requires c κs = omega (arith, length-take-le 4 (c .before .before .args .checks .now) (c .before .before .pre))
 
-returns : tie.Need-returns
-returns c = search needs
-
 pub first-parities-spec : {M : Type 1} → statement M
-first-parities-spec = tie.close (tie.spec slice-aggregate-parities parities-requires returns)
+first-parities-spec = tie.close (tie.spec slice-aggregate-parities parities-requires (λ c. search needs))

@@ -21,21 +21,6 @@ abbrev μ-loop : tie.MeasureT-loop
 loop-holds : tie.Need-loop-holds Inv-loop μ-loop
 loop-holds c = (search needs, sym (ap (places (parity (c .before .args .w))) (drop-length (c .before .args .checks .now))))
 
-sub-j : tie.Need-sub-j Inv-loop μ-loop
-sub-j c = search needs
-
-mul-parity : tie.Need-mul-parity Inv-loop μ-loop
-mul-parity c = search needs
-
-shared-slice-read-parity : tie.Need-shared-slice-read-parity Inv-loop μ-loop
-shared-slice-read-parity c = search needs
-
-parity-requires : tie.Need-parity-requires Inv-loop μ-loop
-parity-requires c κs = search needs
-
-loop-less : tie.Need-loop-less Inv-loop μ-loop
-loop-less c = search needs
-
 loop-again : tie.Need-loop-again Inv-loop μ-loop
 loop-again c =
     let l = c .before .before .before .loop in
@@ -52,14 +37,5 @@ returns c =
 pub parities-spec : {M : Type 1} → statement M
 parities-spec =
     tie.close
-    (tie.spec
-    Inv-loop
-    μ-loop
-    loop-holds
-    sub-j
-    mul-parity
-    shared-slice-read-parity
-    parity-requires
-    loop-less
-    loop-again
-    returns)
+    (tie.spec Inv-loop μ-loop loop-holds (λ c. search needs) (λ c. search needs) (λ c. search needs) (λ c κs. search needs)
+    (λ c. search needs) loop-again returns)

@@ -3,11 +3,5 @@ use borrow.Author.Needs.{needs}
 use Rattle.checks.proofs.check.parity_checks.Statement.{statement}
 use Rattle.checks.proofs.check.parity_checks.Tie as tie
 
-code-of-requires : tie.Need-code-of-requires
-code-of-requires c κs = search needs
-
-returns : tie.Need-returns
-returns c = c .before .code-of .ensures .checks
-
 pub parity-checks-spec : {M : Type 1} → statement M
-parity-checks-spec = tie.close (tie.spec code-of-requires returns)
+parity-checks-spec = tie.close (tie.spec (λ c κs. search needs) (λ c. c .before .code-of .ensures .checks))

@@ -14,22 +14,10 @@ first-four : (l : List ℕ) (w m : ℕ) → drop 4 l ≡ blank m → syndrome (t
 first-four l w m e =
     sym (syndrome-zeros (take 4 l) m w) ∙ ap (λ (x : List ℕ). syndrome x w) (ap (λ (x : List ℕ). take 4 l ++ x) (sym e) ∙ take-append-drop 4 l)
 
-few-rows-requires : tie.Need-few-rows-requires
-few-rows-requires c κs = search needs
-
-first-parities-requires : tie.Need-first-parities-requires
-first-parities-requires c κs = search needs
-
 returns : tie.Need-returns
 returns c =
     let a = c .before .before .before .before .before .args in
     c .first-parities .ensures ∙ first-four (a .checks .now) (a .w) (length (a .checks .now) - 4) (c .before .before .before .few-rows .ensures (c .before .before .if1 .taken))
 
-parities-requires : tie.Need-parities-requires
-parities-requires c κs = search needs
-
-returns-2 : tie.Need-returns-2
-returns-2 c = search needs
-
 pub syndrome-spec : {M : Type 1} → statement M
-syndrome-spec = tie.close (tie.spec few-rows-requires first-parities-requires returns parities-requires returns-2)
+syndrome-spec = tie.close (tie.spec (λ c κs. search needs) (λ c κs. search needs) returns (λ c κs. search needs) (λ c. search needs))

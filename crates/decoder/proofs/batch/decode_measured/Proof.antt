@@ -5,15 +5,6 @@ use borrow.Author.Needs.{needs}
 use Rattle.decoder.proofs.batch.decode_measured.Statement.{statement}
 use Rattle.decoder.proofs.batch.decode_measured.Tie as tie
 
-measured-cause-requires : tie.Need-measured-cause-requires
-measured-cause-requires c κs = search needs
-
-enum-told : tie.Need-enum-told
-enum-told c = search needs
-
-enum-told-2 : tie.Need-enum-told-2
-enum-told-2 c = search needs
-
 returns : tie.Need-returns
 returns c =
     let a = c .before .before .before .before .before .before .before .before .args in
@@ -28,15 +19,6 @@ decode-passed-requires c κs =
     let t = c .before .before .before in
     sym (t .before .before .measured-cause .ensures .0) ∙ t .enum-told .given .1
 
-same-length : tie.Need-same-length
-same-length c = search needs
-
-same-length-2 : tie.Need-same-length-2
-same-length-2 c = search needs
-
-same-length-3 : tie.Need-same-length-3
-same-length-3 c = search needs
-
 returns-2 : tie.Need-returns-2
 returns-2 c =
     let q = c .before .before .before .before .before .before in
@@ -47,13 +29,5 @@ returns-2 c =
 pub decode-measured-spec : {M : Type 1} → statement M
 decode-measured-spec =
     tie.close
-    (tie.spec
-    measured-cause-requires
-    enum-told
-    enum-told-2
-    returns
-    decode-passed-requires
-    same-length
-    same-length-2
-    same-length-3
-    returns-2)
+    (tie.spec (λ c κs. search needs) (λ c. search needs) (λ c. search needs) returns decode-passed-requires (λ c. search needs)
+    (λ c. search needs) (λ c. search needs) returns-2)

@@ -11,17 +11,11 @@ known : (s : tie.Start)
     → Past (s .args .n) (s .args .k) (s .args .rows .now) (s .args .reading) (s .args .words .now) (s .args .out .now) (s .args .counts .now) (s .args .work .now)
 known s = record { passed = s .pre }
 
-leaders-of-requires : tie.Need-leaders-of-requires
-leaders-of-requires c κs = search needs
-
 sub-size : tie.Need-sub-size
 sub-size c =
     let v = c .before .before .before in
     let g = known (v .before .before .before .before .before .before .before) in
     rows-fit g
-
-cast-size : tie.Need-cast-size
-cast-size c = search needs
 
 shl-size : tie.Need-shl-size
 shl-size c =
@@ -47,15 +41,6 @@ decode-words-requires c κs =
     let g = known (v .before .before .before .before .before .before .before) in
     (words-fit g, rw (size-is g) (syndromes-fit g (v .leaders-of .ensures)))
 
-same-length : tie.Need-same-length
-same-length c = search needs
-
-same-length-2 : tie.Need-same-length-2
-same-length-2 c = search needs
-
-same-length-3 : tie.Need-same-length-3
-same-length-3 c = search needs
-
 returns : tie.Need-returns
 returns c =
     let w = c .before .before .before .before in
@@ -66,15 +51,5 @@ returns c =
 pub decode-passed-spec : {M : Type 1} → statement M
 decode-passed-spec =
     tie.close
-    (tie.spec
-    leaders-of-requires
-    sub-size
-    cast-size
-    shl-size
-    slice-reshare-prefix-decode-words
-    slice-aggregate-decode-words
-    decode-words-requires
-    same-length
-    same-length-2
-    same-length-3
-    returns)
+    (tie.spec (λ c κs. search needs) sub-size (λ c. search needs) shl-size slice-reshare-prefix-decode-words
+    slice-aggregate-decode-words decode-words-requires (λ c. search needs) (λ c. search needs) (λ c. search needs) returns)

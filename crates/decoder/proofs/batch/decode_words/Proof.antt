@@ -22,21 +22,6 @@ Inv-loop checks reading words leaders out₀ counts₀ i₀ out counts i =
 abbrev μ-loop : tie.MeasureT-loop
 μ-loop checks reading words leaders out₀ counts₀ i₀ out counts i = length words - i
 
-loop-holds : tie.Need-loop-holds Inv-loop μ-loop
-loop-holds c = search needs
-
-mul-w : tie.Need-mul-w Inv-loop μ-loop
-mul-w c = search needs
-
-shared-slice-read-w : tie.Need-shared-slice-read-w Inv-loop μ-loop
-shared-slice-read-w c = search needs
-
-syndrome-requires : tie.Need-syndrome-requires Inv-loop μ-loop
-syndrome-requires c κs = search needs
-
-cast-s : tie.Need-cast-s Inv-loop μ-loop
-cast-s c = search needs
-
 mul-judged : tie.Need-mul-judged Inv-loop μ-loop
 mul-judged c =
     let s = c .before .before .before .before .before .before .before .before in
@@ -46,30 +31,6 @@ shared-slice-read-judged : tie.Need-shared-slice-read-judged Inv-loop μ-loop
 shared-slice-read-judged c =
     let s = c .before .before .before .before .before .before .before .before .before in
     rw (c .before .syndrome .ensures) (s .pre .1 _)
-
-judged-requires : tie.Need-judged-requires Inv-loop μ-loop
-judged-requires c κs = search needs
-
-word-in-requires : tie.Need-word-in-requires Inv-loop μ-loop
-word-in-requires c κs = search needs
-
-mul-out : tie.Need-mul-out Inv-loop μ-loop
-mul-out c = search needs
-
-slice-write-out : tie.Need-slice-write-out Inv-loop μ-loop
-slice-write-out c = search needs
-
-count-in-requires : tie.Need-count-in-requires Inv-loop μ-loop
-count-in-requires c κs = search needs
-
-slice-write-counts : tie.Need-slice-write-counts Inv-loop μ-loop
-slice-write-counts c = search needs
-
-add-i : tie.Need-add-i Inv-loop μ-loop
-add-i c = search needs
-
-loop-less : tie.Need-loop-less Inv-loop μ-loop
-loop-less c = search needs
 
 loop-again : tie.Need-loop-again Inv-loop μ-loop
 loop-again c =
@@ -96,12 +57,6 @@ loop-again c =
           (c .count-in .ensures ∙ ap countIn o ∙ sym (getD-map g words (l .i) h)),
     )
 
-same-length : tie.Need-same-length Inv-loop μ-loop
-same-length c = search needs
-
-same-length-2 : tie.Need-same-length-2 Inv-loop μ-loop
-same-length-2 c = search needs
-
 returns : tie.Need-returns Inv-loop μ-loop
 returns c =
     let l = c .before .loop in
@@ -120,25 +75,7 @@ returns c =
 pub decode-words-spec : {M : Type 1} → statement M
 decode-words-spec =
     tie.close
-    (tie.spec
-    Inv-loop
-    μ-loop
-    loop-holds
-    mul-w
-    shared-slice-read-w
-    syndrome-requires
-    cast-s
-    mul-judged
-    shared-slice-read-judged
-    judged-requires
-    word-in-requires
-    mul-out
-    slice-write-out
-    count-in-requires
-    slice-write-counts
-    add-i
-    loop-less
-    loop-again
-    same-length
-    same-length-2
-    returns)
+    (tie.spec Inv-loop μ-loop (λ c. search needs) (λ c. search needs) (λ c. search needs) (λ c κs. search needs) (λ c. search needs)
+    mul-judged shared-slice-read-judged (λ c κs. search needs) (λ c κs. search needs) (λ c. search needs) (λ c. search needs)
+    (λ c κs. search needs) (λ c. search needs) (λ c. search needs) (λ c. search needs) loop-again (λ c. search needs)
+    (λ c. search needs) returns)

@@ -10,15 +10,6 @@ use borrow.Author.Needs.{needs}
 use Rattle.encoder.proofs.encode.encode.Statement.{statement}
 use Rattle.encoder.proofs.encode.encode.Tie as tie
 
-accept-requires : tie.Need-accept-requires
-accept-requires c κs = search needs
-
-enum-told : tie.Need-enum-told
-enum-told c = search needs
-
-enum-told-2 : tie.Need-enum-told-2
-enum-told-2 c = search needs
-
 returns : tie.Need-returns
 returns c =
     let a = c .before .before .before .before .before .before .args in
@@ -27,15 +18,6 @@ returns c =
     let later = listAnswer (a .messages .now) (a .k) (length (a .out .now)) in
     encoded (a .n) (a .k) (a .rows .now) (a .messages .now) (a .out .now) (r .result) (a .out .now)
     (r .ensures .answer ∙ stays (matrixAnswer (a .n) (a .k) (a .rows .now)) later _ (sym (r .ensures .answer) ∙ e)) (kept (r .result) _ e _ _)
-
-list-cause-requires : tie.Need-list-cause-requires
-list-cause-requires c κs = search needs
-
-enum-told-3 : tie.Need-enum-told-3
-enum-told-3 c = search needs
-
-enum-told-4 : tie.Need-enum-told-4
-enum-told-4 c = search needs
 
 returns-2 : tie.Need-returns-2
 returns-2 c =
@@ -53,9 +35,6 @@ row-sums-requires c κs =
     let a = r .before .before .before .before .before .before .before .args in
     list-in (a .messages .now) (a .k) (length (a .out .now)) (sym (r .list-cause .ensures) ∙ c .before .enum-told3 .given .1) .room
 
-same-length : tie.Need-same-length
-same-length c = search needs
-
 returns-3 : tie.Need-returns-3
 returns-3 c =
     let q = c .before .before in
@@ -71,15 +50,5 @@ returns-3 c =
 pub encode-spec : {M : Type 1} → statement M
 encode-spec =
     tie.close
-    (tie.spec
-    accept-requires
-    enum-told
-    enum-told-2
-    returns
-    list-cause-requires
-    enum-told-3
-    enum-told-4
-    returns-2
-    row-sums-requires
-    same-length
-    returns-3)
+    (tie.spec (λ c κs. search needs) (λ c. search needs) (λ c. search needs) returns (λ c κs. search needs) (λ c. search needs)
+    (λ c. search needs) returns-2 row-sums-requires (λ c. search needs) returns-3)

@@ -19,18 +19,6 @@ Inv-loop checks words i₀ i = (i ≤ length words) × ((j : ℕ) → j < i → 
 abbrev μ-loop : tie.MeasureT-loop
 μ-loop checks words i₀ i = length words - i
 
-loop-holds : tie.Need-loop-holds Inv-loop μ-loop
-loop-holds c = (search needs, λ j h. absurd (omega arith))
-
-mul-syndrome : tie.Need-mul-syndrome Inv-loop μ-loop
-mul-syndrome c = search needs
-
-shared-slice-read-syndrome : tie.Need-shared-slice-read-syndrome Inv-loop μ-loop
-shared-slice-read-syndrome c = search needs
-
-syndrome-requires : tie.Need-syndrome-requires Inv-loop μ-loop
-syndrome-requires c κs = search needs
-
 returns : tie.Need-returns Inv-loop μ-loop
 returns c =
     let l = c .before .before .before .before in
@@ -38,12 +26,6 @@ returns c =
     sym
     (first-is (λ i. not (eqb (syndrome (a .checks .now) (getD (a .words .now) i 0)) 0)) (length (a .words .now)) (l .loop .i) (omega arith)
     (l .loop .inv .1) (λ _. ap not (ne-eqb _ 0 (λ e. c .if1 .taken (c .before .syndrome .ensures ∙ e)))))
-
-add-i : tie.Need-add-i Inv-loop μ-loop
-add-i c = search needs
-
-loop-less : tie.Need-loop-less Inv-loop μ-loop
-loop-less c = search needs
 
 loop-again : tie.Need-loop-again Inv-loop μ-loop
 loop-again c = (
@@ -62,15 +44,5 @@ returns-2 c =
 pub first-other-spec : {M : Type 1} → statement M
 first-other-spec =
     tie.close
-    (tie.spec
-    Inv-loop
-    μ-loop
-    loop-holds
-    mul-syndrome
-    shared-slice-read-syndrome
-    syndrome-requires
-    returns
-    add-i
-    loop-less
-    loop-again
-    returns-2)
+    (tie.spec Inv-loop μ-loop (λ c. (search needs, λ j h. absurd (omega arith))) (λ c. search needs) (λ c. search needs)
+    (λ c κs. search needs) returns (λ c. search needs) (λ c. search needs) loop-again returns-2)

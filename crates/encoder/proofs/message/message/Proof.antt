@@ -18,15 +18,6 @@ use borrow.Author.Needs.{needs}
 use Rattle.encoder.proofs.message.message.Statement.{statement}
 use Rattle.encoder.proofs.message.message.Tie as tie
 
-code-of-requires : tie.Need-code-of-requires
-code-of-requires c κs = search needs
-
-enum-told : tie.Need-enum-told
-enum-told c = search needs
-
-enum-told-2 : tie.Need-enum-told-2
-enum-told-2 c = search needs
-
 returns : tie.Need-returns
 returns c =
     let a = c .before .before .before .before .before .before .args in
@@ -34,15 +25,6 @@ returns c =
     let e = c .enum-told2 .given .1 in
     messages-read (a .n) (a .k) (a .rows .now) (a .words .now) (a .out .now) (r .result .answer) (a .out .now)
     (r .ensures .reduced .answer ∙ stays (matrixAnswer (a .n) (a .k) (a .rows .now)) _ _ (sym (r .ensures .reduced .answer) ∙ e)) (kept (r .result .answer) _ e _ _)
-
-list-cause-requires : tie.Need-list-cause-requires
-list-cause-requires c κs = search needs
-
-enum-told-3 : tie.Need-enum-told-3
-enum-told-3 c = search needs
-
-enum-told-4 : tie.Need-enum-told-4
-enum-told-4 c = search needs
 
 returns-2 : tie.Need-returns-2
 returns-2 c =
@@ -54,9 +36,6 @@ returns-2 c =
     messages-read (a .n) (a .k) (a .rows .now) (a .words .now) (a .out .now) (r .result) (a .out .now)
     (r .ensures ∙ stays (listAnswer (a .words .now) (a .n) (length (a .out .now))) _ _ (sym (r .ensures) ∙ e)
     ∙ goes (matrixAnswer (a .n) (a .k) (a .rows .now)) _ (sym m ∙ t .enum-told .given .1)) (kept (r .result) _ e _ _)
-
-first-other-requires : tie.Need-first-other-requires
-first-other-requires c κs = search needs
 
 returns-3 : tie.Need-returns-3
 returns-3 c =
@@ -76,17 +55,11 @@ returns-3 c =
     (other-refuses (a .rows .now) (a .words .now) (f .first-other .result) is (c .if1 .taken)
     ∙ past (a .n) (a .k) (a .rows .now) (a .words .now) (length (a .out .now)) m l _) refl
 
-slice-aggregate-row-sums : tie.Need-slice-aggregate-row-sums
-slice-aggregate-row-sums c = search needs
-
 row-sums-requires : tie.Need-row-sums-requires
 row-sums-requires c κs =
     let g = c .before .before .before .before .before .before .before in
     let a = g .before .before .before .before .before .before .before .before .before .args in
     list-in (a .words .now) (a .n) (length (a .out .now)) (sym (g .before .before .list-cause .ensures) ∙ g .enum-told3 .given .1) .room
-
-same-length : tie.Need-same-length
-same-length c = search needs
 
 returns-4 : tie.Need-returns-4
 returns-4 c =
@@ -116,18 +89,5 @@ returns-4 c =
 pub message-spec : {M : Type 1} → statement M
 message-spec =
     tie.close
-    (tie.spec
-    code-of-requires
-    enum-told
-    enum-told-2
-    returns
-    list-cause-requires
-    enum-told-3
-    enum-told-4
-    returns-2
-    first-other-requires
-    returns-3
-    slice-aggregate-row-sums
-    row-sums-requires
-    same-length
-    returns-4)
+    (tie.spec (λ c κs. search needs) (λ c. search needs) (λ c. search needs) returns (λ c κs. search needs) (λ c. search needs)
+    (λ c. search needs) returns-2 (λ c κs. search needs) returns-3 (λ c. search needs) row-sums-requires (λ c. search needs) returns-4)

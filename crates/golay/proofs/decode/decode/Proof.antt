@@ -9,20 +9,11 @@ use borrow.Author.Needs.{needs}
 use Rattle.golay.proofs.decode.decode.Statement.{statement}
 use Rattle.golay.proofs.decode.decode.Tie as tie
 
-fits-requires : tie.Need-fits-requires
-fits-requires c κs = search needs
-
 returns : tie.Need-returns
 returns c = decode-refused (c .before .before .args .received) (sym (c .before .fits2 .ensures) ∙ not-true _ (c .if1 .taken))
 
 outcome-requires : tie.Need-outcome-requires
 outcome-requires c κs = ltb-true _ (2 ^ 24) (sym (c .before .fits2 .ensures) ∙ not-false _ (c .if1 .left))
-
-word-in-requires : tie.Need-word-in-requires
-word-in-requires c κs = search needs
-
-count-in-requires : tie.Need-count-in-requires
-count-in-requires c κs = search needs
 
 returns-2 : tie.Need-returns-2
 returns-2 c =
@@ -34,4 +25,4 @@ returns-2 c =
 pub decode-spec : {M : Type 1} → statement M
 decode-spec =
     tie.close
-    (tie.spec fits-requires returns outcome-requires word-in-requires count-in-requires returns-2)
+    (tie.spec (λ c κs. search needs) returns outcome-requires (λ c κs. search needs) (λ c κs. search needs) returns-2)

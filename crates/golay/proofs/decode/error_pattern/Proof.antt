@@ -9,15 +9,6 @@ use borrow.Author.Needs.{needs}
 use Rattle.golay.proofs.decode.error_pattern.Statement.{statement}
 use Rattle.golay.proofs.decode.error_pattern.Tie as tie
 
-few-in-message-requires : tie.Need-few-in-message-requires
-few-in-message-requires c κs = search needs
-
-returns : tie.Need-returns
-returns c = search needs
-
-check-sum-requires : tie.Need-check-sum-requires
-check-sum-requires c κs = search needs
-
 few-in-message-requires-2 : tie.Need-few-in-message-requires-2
 few-in-message-requires-2 c κs = rw (c .check-sum .ensures) (sum-lt _)
 
@@ -42,10 +33,4 @@ returns-3 c =
 pub error-pattern-spec : {M : Type 1} → statement M
 error-pattern-spec =
     tie.close
-    (tie.spec
-    few-in-message-requires
-    returns
-    check-sum-requires
-    few-in-message-requires-2
-    returns-2
-    returns-3)
+    (tie.spec (λ c κs. search needs) (λ c. search needs) (λ c κs. search needs) few-in-message-requires-2 returns-2 returns-3)

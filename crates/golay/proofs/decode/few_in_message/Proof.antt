@@ -13,39 +13,15 @@ use borrow.Author.Needs.{needs}
 use Rattle.golay.proofs.decode.few_in_message.Statement.{statement}
 use Rattle.golay.proofs.decode.few_in_message.Tie as tie
 
-weight-requires : tie.Need-weight-requires
-weight-requires c κs = search needs
-
 returns : tie.Need-returns
 returns c =
     let s = c .before .before .args .s in
     few-found s s (check-pattern s (c .before .before .pre) (omega (arith, c .before .weight .ensures, c .if1 .taken)))
 
-near-row-requires : tie.Need-near-row-requires
-near-row-requires c κs = search needs
-
 returns-2 : tie.Need-returns-2
 returns-2 c =
     let w = c .before .before .before in
     few-far (w .before .args .s) (c .before .near-row .result) (omega (arith, w .weight .ensures, c .before .before .if1 .left)) (c .before .near-row .ensures) (c .if2 .taken)
-
-add-result : tie.Need-add-result
-add-result c = search needs
-
-shl-result : tie.Need-shl-result
-shl-result c = search needs
-
-cast-sum : tie.Need-cast-sum
-cast-sum c = search needs
-
-mul-sum : tie.Need-mul-sum
-mul-sum c = search needs
-
-array-read-sum : tie.Need-array-read-sum
-array-read-sum c = search needs
-
-sum-requires : tie.Need-sum-requires
-sum-requires c κs = search needs
 
 returns-3 : tie.Need-returns-3
 unfolding checkWords
@@ -62,15 +38,5 @@ returns-3 c =
 pub few-in-message-spec : {M : Type 1} → statement M
 few-in-message-spec =
     tie.close
-    (tie.spec
-    weight-requires
-    returns
-    near-row-requires
-    returns-2
-    add-result
-    shl-result
-    cast-sum
-    mul-sum
-    array-read-sum
-    sum-requires
-    returns-3)
+    (tie.spec (λ c κs. search needs) returns (λ c κs. search needs) returns-2 (λ c. search needs) (λ c. search needs)
+    (λ c. search needs) (λ c. search needs) (λ c. search needs) (λ c κs. search needs) returns-3)

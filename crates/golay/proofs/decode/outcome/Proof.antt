@@ -8,17 +8,11 @@ use borrow.Author.Needs.{needs}
 use Rattle.golay.proofs.decode.outcome.Statement.{statement}
 use Rattle.golay.proofs.decode.outcome.Tie as tie
 
-syndrome-requires : tie.Need-syndrome-requires
-syndrome-requires c κs = search needs
-
 returns : tie.Need-returns
 returns c = clean-is (c .before .before .args .received) (c .before .before .pre) (sym (c .before .syndrome .ensures) ∙ c .if1 .taken)
 
 error-pattern-requires : tie.Need-error-pattern-requires
 error-pattern-requires c κs = rw (c .before .syndrome .ensures) (syndrome-lt (c .before .before .args .received))
-
-judged-requires : tie.Need-judged-requires
-judged-requires c κs = search needs
 
 returns-2 : tie.Need-returns-2
 returns-2 c =
@@ -29,5 +23,4 @@ returns-2 c =
     ∙ outcome-is w (s .before .pre) (p .error-pattern .result) (subst (λ (t : ℕ). ErrorPattern t (p .error-pattern .result)) (s .syndrome .ensures) (p .error-pattern .ensures))
 
 pub outcome-spec : {M : Type 1} → statement M
-outcome-spec =
-    tie.close (tie.spec syndrome-requires returns error-pattern-requires judged-requires returns-2)
+outcome-spec = tie.close (tie.spec (λ c κs. search needs) returns error-pattern-requires (λ c κs. search needs) returns-2)

@@ -11,14 +11,8 @@ use borrow.Author.Needs.{needs}
 use Rattle.golay.proofs.encode.encode.Statement.{statement}
 use Rattle.golay.proofs.encode.encode.Tie as tie
 
-fits-requires : tie.Need-fits-requires
-fits-requires c κs = search needs
-
 returns : tie.Need-returns
 returns c = encode-refused (c .before .before .args .message) (sym (c .before .fits2 .ensures) ∙ not-true _ (c .if1 .taken))
-
-check-sum-requires : tie.Need-check-sum-requires
-check-sum-requires c κs = search needs
 
 returns-2 : tie.Need-returns-2
 returns-2 c =
@@ -27,4 +21,4 @@ returns-2 c =
     encode-done u t _ (ap₂ _⊕_ (shl-exact 12 12 32 (ltb-true u (2 ^ 12) t) (lit≤ tt)) (c .check-sum .ensures))
 
 pub encode-spec : {M : Type 1} → statement M
-encode-spec = tie.close (tie.spec fits-requires returns check-sum-requires returns-2)
+encode-spec = tie.close (tie.spec (λ c κs. search needs) returns (λ c κs. search needs) returns-2)

@@ -6,14 +6,8 @@ use borrow.Author.Needs.{needs}
 use Rattle.golay.proofs.message.message.Statement.{statement}
 use Rattle.golay.proofs.message.message.Tie as tie
 
-fits-requires : tie.Need-fits-requires
-fits-requires c κs = search needs
-
 returns : tie.Need-returns
 returns c = read-outside (c .before .before .args .word) (sym (c .before .fits2 .ensures) ∙ not-true _ (c .if1 .taken))
-
-syndrome-requires : tie.Need-syndrome-requires
-syndrome-requires c κs = search needs
 
 returns-2 : tie.Need-returns-2
 returns-2 c =
@@ -26,4 +20,4 @@ returns-3 c =
     read-done (f .before .args .word) (sym (f .fits2 .ensures) ∙ not-false _ (c .before .before .if1 .left)) (sym (c .before .syndrome .ensures) ∙ c .if2 .left)
 
 pub message-spec : {M : Type 1} → statement M
-message-spec = tie.close (tie.spec fits-requires returns syndrome-requires returns-2 returns-3)
+message-spec = tie.close (tie.spec (λ c κs. search needs) returns (λ c κs. search needs) returns-2 returns-3)

@@ -13,18 +13,6 @@ use Rattle.golay.proofs.nearby.near_row.Tie as tie
 few : (s : ℕ) → s < 2 ^ 12 → weight s ≤ 12
 few s h = ones-le 12 s h
 
-cast-half : tie.Need-cast-half
-cast-half c = omega (arith, few (c .args .s) (c .pre))
-
-overlaps-requires : tie.Need-overlaps-requires
-overlaps-requires c κs = search needs
-
-mul-reached : tie.Need-mul-reached
-mul-reached c = omega (arith, few (c .before .args .s) (c .before .pre))
-
-sub-reached : tie.Need-sub-reached
-sub-reached c = omega (arith, few (c .before .args .s) (c .before .pre))
-
 add-reached : tie.Need-add-reached
 add-reached c = omega (arith, c .overlaps .ensures, overlaps-lt (c .before .args .s) (c .before .pre))
 
@@ -37,4 +25,7 @@ returns c =
 
 pub near-row-spec : {M : Type 1} → statement M
 near-row-spec =
-    tie.close (tie.spec cast-half overlaps-requires mul-reached sub-reached add-reached returns)
+    tie.close
+    (tie.spec (λ c. omega (arith, few (c .args .s) (c .pre))) (λ c κs. search needs)
+    (λ c. omega (arith, few (c .before .args .s) (c .before .pre))) (λ c. omega (arith, few (c .before .args .s) (c .before .pre)))
+    add-reached returns)

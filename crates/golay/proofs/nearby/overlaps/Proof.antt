@@ -44,12 +44,6 @@ loop-holds c = (
       (λ i l. ap (λ (x : ℕ). weight (bitAnd (c .args .s) x)) (div-one (getD golayChecks i 0))),
 )
 
-mul-sum : tie.Need-mul-sum Inv-loop μ-loop
-mul-sum c = search needs
-
-array-read-sum : tie.Need-array-read-sum Inv-loop μ-loop
-array-read-sum c = search needs
-
 mul-sum-2 : tie.Need-mul-sum-2 Inv-loop μ-loop
 unfolding placeWords
 mul-sum-2 c =
@@ -61,12 +55,6 @@ unfolding placeWords
 add-sum c =
     let l = c .before .loop in
     omega (arith, step-lt (c .before .before .args .s) (l .sum) (l .m) (l .j) (c .before .before .pre) (c .loop-test .taken) (l .inv .2))
-
-add-j : tie.Need-add-j Inv-loop μ-loop
-add-j c = search needs
-
-loop-less : tie.Need-loop-less Inv-loop μ-loop
-loop-less c = search needs
 
 loop-again : tie.Need-loop-again Inv-loop μ-loop
 unfolding placeWords
@@ -88,15 +76,5 @@ returns c =
 pub overlaps-spec : {M : Type 1} → statement M
 overlaps-spec =
     tie.close
-    (tie.spec
-    Inv-loop
-    μ-loop
-    loop-holds
-    mul-sum
-    array-read-sum
-    mul-sum-2
-    add-sum
-    add-j
-    loop-less
-    loop-again
-    returns)
+    (tie.spec Inv-loop μ-loop loop-holds (λ c. search needs) (λ c. search needs) mul-sum-2 add-sum (λ c. search needs)
+    (λ c. search needs) loop-again returns)

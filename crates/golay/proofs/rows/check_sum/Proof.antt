@@ -19,24 +19,6 @@ Inv-loop message rows sum₀ m₀ i₀ sum m i = (i ≤ 12) × (sum ⊕ encode (
 abbrev μ-loop : tie.MeasureT-loop
 μ-loop message rows sum₀ m₀ i₀ sum m i = 12 - i
 
-loop-holds : tie.Need-loop-holds Inv-loop μ-loop
-loop-holds c = (search needs, xor-zero-l (encode golayChecks (c .args .message)))
-
-mul-selected : tie.Need-mul-selected Inv-loop μ-loop
-mul-selected c = search needs
-
-array-read-selected : tie.Need-array-read-selected Inv-loop μ-loop
-array-read-selected c = search needs
-
-selected-requires : tie.Need-selected-requires Inv-loop μ-loop
-selected-requires c κs = search needs
-
-add-i : tie.Need-add-i Inv-loop μ-loop
-add-i c = search needs
-
-loop-less : tie.Need-loop-less Inv-loop μ-loop
-loop-less c = search needs
-
 loop-again : tie.Need-loop-again Inv-loop μ-loop
 unfolding checkWords
 loop-again c =
@@ -58,14 +40,5 @@ returns c =
 pub check-sum-spec : {M : Type 1} → statement M
 check-sum-spec =
     tie.close
-    (tie.spec
-    Inv-loop
-    μ-loop
-    loop-holds
-    mul-selected
-    array-read-selected
-    selected-requires
-    add-i
-    loop-less
-    loop-again
-    returns)
+    (tie.spec Inv-loop μ-loop (λ c. (search needs, xor-zero-l (encode golayChecks (c .args .message)))) (λ c. search needs)
+    (λ c. search needs) (λ c κs. search needs) (λ c. search needs) (λ c. search needs) loop-again returns)

@@ -6,11 +6,8 @@ use borrow.Author.Needs.{needs}
 use Rattle.golay.proofs.rows.syndrome.Statement.{statement}
 use Rattle.golay.proofs.rows.syndrome.Tie as tie
 
-check-sum-requires : tie.Need-check-sum-requires
-check-sum-requires c κs = search needs
-
 returns : tie.Need-returns
 returns c = ap₂ _⊕_ (and-mask (c .before .args .word) 12) (c .check-sum .ensures)
 
 pub syndrome-spec : {M : Type 1} → statement M
-syndrome-spec = tie.close (tie.spec check-sum-requires returns)
+syndrome-spec = tie.close (tie.spec (λ c κs. search needs) returns)

@@ -33,18 +33,6 @@ none-before s i h e j l =
     let ne : getD columns j 0 ≡ s → ⊥ = λ z. absurd (omega (arith, columns-odd .different j i (omega arith) k (z ∙ sym e))) in
     ne-eqb (getD columns j 0) s ne
 
-loop-holds : tie.Need-loop-holds Inv-loop μ-loop
-loop-holds c = (search needs, refl)
-
-cast-if1 : tie.Need-cast-if1 Inv-loop μ-loop
-cast-if1 c = search needs
-
-array-read-if1 : tie.Need-array-read-if1 Inv-loop μ-loop
-array-read-if1 c = search needs
-
-add-n : tie.Need-add-n Inv-loop μ-loop
-add-n c = search needs
-
 add-n-2 : tie.Need-add-n-2 Inv-loop μ-loop
 unfolding columns
 add-n-2 c =
@@ -53,12 +41,6 @@ add-n-2 c =
     let i : l .i < 64 = c .before .loop-test .taken in
     let z : numberBelow (hit s) (l .i) ≡ 0 = number-none (hit s) (l .i) (none-before s (l .i) i (c .if1 .taken)) in
     record { fits = omega (arith, l .inv .1) }
-
-add-i : tie.Need-add-i Inv-loop μ-loop
-add-i c = search needs
-
-loop-less : tie.Need-loop-less Inv-loop μ-loop
-loop-less c = search needs
 
 loop-again : tie.Need-loop-again Inv-loop μ-loop
 unfolding columns
@@ -86,15 +68,5 @@ returns c =
 pub numbered-spec : {M : Type 1} → statement M
 numbered-spec =
     tie.close
-    (tie.spec
-    Inv-loop
-    μ-loop
-    loop-holds
-    cast-if1
-    array-read-if1
-    add-n
-    add-n-2
-    add-i
-    loop-less
-    loop-again
-    returns)
+    (tie.spec Inv-loop μ-loop (λ c. (search needs, refl)) (λ c. search needs) (λ c. search needs) (λ c. search needs) add-n-2
+    (λ c. search needs) (λ c. search needs) loop-again returns)

@@ -9,15 +9,6 @@ use borrow.Author.Needs.{needs}
 use Rattle.hsiao.proofs.decode.decode.Statement.{statement}
 use Rattle.hsiao.proofs.decode.decode.Tie as tie
 
-judged-requires : tie.Need-judged-requires
-judged-requires c κs = search needs
-
-word-in-requires : tie.Need-word-in-requires
-word-in-requires c κs = search needs
-
-count-in-requires : tie.Need-count-in-requires
-count-in-requires c κs = search needs
-
 returns : tie.Need-returns
 returns c =
     let j = c .before .before in
@@ -35,4 +26,4 @@ returns c =
     }
 
 pub decode-spec : {M : Type 1} → statement M
-decode-spec = tie.close (tie.spec judged-requires word-in-requires count-in-requires returns)
+decode-spec = tie.close (tie.spec (λ c κs. search needs) (λ c κs. search needs) (λ c κs. search needs) returns)

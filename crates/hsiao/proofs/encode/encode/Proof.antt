@@ -9,9 +9,6 @@ use borrow.Author.Needs.{needs}
 use Rattle.hsiao.proofs.encode.encode.Statement.{statement}
 use Rattle.hsiao.proofs.encode.encode.Tie as tie
 
-column-sum-requires : tie.Need-column-sum-requires
-column-sum-requires c κs = search needs
-
 returns : tie.Need-returns
 returns c =
     let x = c .before .args .bits in
@@ -24,4 +21,4 @@ returns c =
     }
 
 pub encode-spec : {M : Type 1} → statement M
-encode-spec = tie.close (tie.spec column-sum-requires returns)
+encode-spec = tie.close (tie.spec (λ c κs. search needs) returns)

@@ -23,23 +23,14 @@ by-syndrome c o e = (e ∙ ap (outcomeAt 8 columns (c .before .args .w)) (c .syn
 is-byte : (c : tie.After-syndrome) → c .syndrome .result < 256
 is-byte c = omega (arith, c .syndrome .ok)
 
-syndrome-requires : tie.Need-syndrome-requires
-syndrome-requires c κs = search needs
-
 returns : tie.Need-returns
 returns c = by-syndrome (c .before) _ (simp (eq-eqb _ 0 (c .if1 .taken)))
-
-sub-if2 : tie.Need-sub-if2
-sub-if2 c = search needs
 
 returns-2 : tie.Need-returns-2
 returns-2 c =
     let i = c .before .before in
     let s = i .before in
     by-syndrome s _ (outcome-check (s .syndrome .result) (is-byte s) (i .if1 .left) (s .before .args .w) (c .before .if2 .taken))
-
-numbered-requires : tie.Need-numbered-requires
-numbered-requires c κs = search needs
 
 returns-3 : tie.Need-returns-3
 returns-3 c =
@@ -49,12 +40,6 @@ returns-3 c =
     by-syndrome s _
     (outcome-far (s .syndrome .result) (is-byte s) (i .if1 .left) (s .before .args .w) (n .numbered .result) (n .before .if2 .left)
     (n .numbered .ensures) (c .if3 .taken))
-
-sub-data : tie.Need-sub-data
-sub-data c = search needs
-
-cast-data : tie.Need-cast-data
-cast-data c = search needs
 
 -- the data place is below 64, and it is the one to be mended
 found : (c : tie.Else3)
@@ -83,14 +68,5 @@ returns-4 c =
 pub judged-spec : {M : Type 1} → statement M
 judged-spec =
     tie.close
-    (tie.spec
-    syndrome-requires
-    returns
-    sub-if2
-    returns-2
-    numbered-requires
-    returns-3
-    sub-data
-    cast-data
-    shl-data
-    returns-4)
+    (tie.spec (λ c κs. search needs) returns (λ c. search needs) returns-2 (λ c κs. search needs) returns-3 (λ c. search needs)
+    (λ c. search needs) shl-data returns-4)

@@ -9,9 +9,6 @@ use borrow.Author.Needs.{needs}
 use Rattle.hsiao.proofs.read.read.Statement.{statement}
 use Rattle.hsiao.proofs.read.read.Tie as tie
 
-syndrome-requires : tie.Need-syndrome-requires
-syndrome-requires c κs = search needs
-
 returns : tie.Need-returns
 returns c =
     let s = c .before .syndrome .ensures in
@@ -27,4 +24,4 @@ returns-2 c =
     record { answer = rw e refl; bits = refl; read = ((λ _. s .codeword .0 (c .if1 .left)), λ _. refl) }
 
 pub read-spec : {M : Type 1} → statement M
-read-spec = tie.close (tie.spec syndrome-requires returns returns-2)
+read-spec = tie.close (tie.spec (λ c κs. search needs) returns returns-2)

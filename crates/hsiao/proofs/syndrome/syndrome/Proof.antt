@@ -10,9 +10,6 @@ use borrow.Author.Needs.{needs}
 use Rattle.hsiao.proofs.syndrome.syndrome.Statement.{statement}
 use Rattle.hsiao.proofs.syndrome.syndrome.Tie as tie
 
-column-sum-requires : tie.Need-column-sum-requires
-column-sum-requires c κs = search needs
-
 returns : tie.Need-returns
 returns c =
     let w = c .before .before .args .w in
@@ -27,4 +24,4 @@ returns c =
     }
 
 pub syndrome-spec : {M : Type 1} → statement M
-syndrome-spec = tie.close (tie.spec column-sum-requires returns)
+syndrome-spec = tie.close (tie.spec (λ c κs. search needs) returns)

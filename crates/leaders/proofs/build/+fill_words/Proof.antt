@@ -246,27 +246,9 @@ fill-words-returns-4 t c =
     (F .ensures) (rw (shl-one (a .m - 1) 32 (omega (arith, T .places, T .some))) at (G .ensures))
 
 pub +fill-words-spec : {M : Type 1} → statement M
-+fill-words-spec = close μ-fill-words λ t. fill-words-lts.spec (
-  fill-few-reads.Asked,
-  fill-few-reads.Learnt,
-  fill-words-below t,
-  fill-words.Post,
-)
-    (fill-words-at t)
-    fill-words.Post
-    (fill-words-returns t)
-    (fill-words-returns-2 t)
-    (fill-words-fill-few-requires t)
-    (fill-words-same-length t)
-    (fill-words-returns-3 t)
-    (fill-words-sub-k t)
-    (fill-words-fill-words-requires t)
-    (fill-words-sub-fill-words t)
-    (fill-words-cast-fill-words t)
-    (fill-words-shl-fill-words t)
-    (fill-words-add-fill-words t)
-    (fill-words-mul-fill-words t)
-    (fill-words-element-copy-out-fill-words t)
-    (fill-words-fill-words-requires-2 t)
-    (fill-words-same-length-2 t)
-    (fill-words-returns-4 t)
++fill-words-spec = close μ-fill-words λ t. fill-words-lts.spec (fill-few-reads.Asked, fill-few-reads.Learnt, fill-words-below t, fill-words.Post)
+    (fill-words-at t) fill-words.Post (fill-words-returns t) (fill-words-returns-2 t) (fill-words-fill-few-requires t)
+    (fill-words-same-length t) (fill-words-returns-3 t) (fill-words-sub-k t) (fill-words-fill-words-requires t)
+    (fill-words-sub-fill-words t) (fill-words-cast-fill-words t) (fill-words-shl-fill-words t) (fill-words-add-fill-words t)
+    (fill-words-mul-fill-words t) (fill-words-element-copy-out-fill-words t) (fill-words-fill-words-requires-2 t)
+    (fill-words-same-length-2 t) (fill-words-returns-4 t)

@@ -13,9 +13,6 @@ use borrow.Author.Needs.{needs}
 use Rattle.leaders.proofs.build.build.Statement.{statement}
 use Rattle.leaders.proofs.build.build.Tie as tie
 
-columns-requires : tie.Need-columns-requires
-columns-requires c κs = search needs
-
 fill-list-requires : tie.Need-fill-list-requires
 fill-list-requires c κs =
     let s = c .before .before .before .before in
@@ -27,9 +24,6 @@ fill-list-requires c κs =
       encode-lt (s .args .c) (columnsOf checks) (columns-inside checks (s .args .c) (s .pre .3)),
     )
 
-same-length : tie.Need-same-length
-same-length c = search needs
-
 returns : tie.Need-returns
 returns c =
     let f = c .before .before in
@@ -39,10 +33,4 @@ returns c =
     ∙ ap (λ (h : List ℕ). fills (encode h) (blanks (2 ^ s .args .c)) (order (s .args .n) (suc (s .args .c)))) e
 
 pub build-spec : {M : Type 1} → statement M
-build-spec =
-    tie.close
-    (tie.spec
-    columns-requires
-    fill-list-requires
-    same-length
-    returns)
+build-spec = tie.close (tie.spec (λ c κs. search needs) fill-list-requires (λ c. search needs) returns)

@@ -20,30 +20,6 @@ Inv-loop checks cols₀ p₀ cols p = (p ≤ 32) × (cols ≡ over (columnsOf ch
 abbrev μ-loop : tie.MeasureT-loop
 μ-loop checks cols₀ p₀ cols p = 32 - p
 
-loop-holds : tie.Need-loop-holds Inv-loop μ-loop
-loop-holds c = search needs
-
-cast-syndrome : tie.Need-cast-syndrome Inv-loop μ-loop
-cast-syndrome c = search needs
-
-shl-syndrome : tie.Need-shl-syndrome Inv-loop μ-loop
-shl-syndrome c = search needs
-
-syndrome-requires : tie.Need-syndrome-requires Inv-loop μ-loop
-syndrome-requires c κs = search needs
-
-mul-cols : tie.Need-mul-cols Inv-loop μ-loop
-mul-cols c = search needs
-
-array-write-cols : tie.Need-array-write-cols Inv-loop μ-loop
-array-write-cols c = search needs
-
-add-p : tie.Need-add-p Inv-loop μ-loop
-add-p c = search needs
-
-loop-less : tie.Need-loop-less Inv-loop μ-loop
-loop-less c = search needs
-
 loop-again : tie.Need-loop-again Inv-loop μ-loop
 loop-again c =
     let l = c .before .before .loop in
@@ -64,16 +40,5 @@ returns c =
 pub columns-spec : {M : Type 1} → statement M
 columns-spec =
     tie.close
-    (tie.spec
-    Inv-loop
-    μ-loop
-    loop-holds
-    cast-syndrome
-    shl-syndrome
-    syndrome-requires
-    mul-cols
-    array-write-cols
-    add-p
-    loop-less
-    loop-again
-    returns)
+    (tie.spec Inv-loop μ-loop (λ c. search needs) (λ c. search needs) (λ c. search needs) (λ c κs. search needs) (λ c. search needs)
+    (λ c. search needs) (λ c. search needs) (λ c. search needs) loop-again returns)

@@ -10,12 +10,6 @@ use Rattle.leaders.proofs.build.fill_few.Tie as tie
 two : {t : ℕ} → 1 ≤ t → t < 3 → t ≢ 1 → t ≡ 2
 two a b c = omega (arith, a, b, c)
 
-fill-units-requires : tie.Need-fill-units-requires
-fill-units-requires c κs = search needs
-
-same-length : tie.Need-same-length
-same-length c = search needs
-
 returns : tie.Need-returns
 returns c =
     let e : c .before .before .before .before .before .before .args .t ≡ 1 = c .before .before .before .before .if1 .taken in
@@ -27,9 +21,6 @@ fill-pairs-requires c κs =
     let e : s .args .t ≡ 2 = two (s .pre .2 .some) (s .pre .1) (c .before .if1 .left) in
     (omega (arith, e, s .pre .0), rw e at (s .pre .2))
 
-same-length-2 : tie.Need-same-length-2
-same-length-2 c = search needs
-
 returns-2 : tie.Need-returns-2
 returns-2 c =
     let s = c .before .before .before .before .before .before in
@@ -39,4 +30,4 @@ returns-2 c =
 pub fill-few-spec : {M : Type 1} → statement M
 fill-few-spec =
     tie.close
-    (tie.spec fill-units-requires same-length returns fill-pairs-requires same-length-2 returns-2)
+    (tie.spec (λ c κs. search needs) (λ c. search needs) returns fill-pairs-requires (λ c. search needs) returns-2)

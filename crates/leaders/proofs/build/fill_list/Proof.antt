@@ -17,9 +17,6 @@ Inv-loop list₀ cols n c left₀ t₀ list left t = (1 ≤ t) × (t ≤ c + 1) 
 abbrev μ-loop : tie.MeasureT-loop
 μ-loop list₀ cols n c left₀ t₀ list left t = c + 1 - t
 
-clear-requires : tie.Need-clear-requires Inv-loop μ-loop
-clear-requires c κs = search needs
-
 -- the list is as long as it was
 long : (K : tie.After-slice-known2 Inv-loop μ-loop)
     → length (set (K .before .before .clear .last .0) 0 0) ≡ length (K .before .before .before .before .before .args .list .now)
@@ -59,12 +56,6 @@ fill-words-requires c κs =
     offered-trying _ (s .args .cols .now) (s .args .n) (A .loop .t) (A .loop .list) (A .loop .left) (A .loop .inv .2) (s .pre .0 .0) (s .pre .0 .1)
     (A .loop .inv .0) (omega (arith, s .pre)) (λ w. rw (long K) (s .pre .1 w))
 
-add-t : tie.Need-add-t Inv-loop μ-loop
-add-t c = search needs
-
-loop-less : tie.Need-loop-less Inv-loop μ-loop
-loop-less c = search needs
-
 loop-again : tie.Need-loop-again Inv-loop μ-loop
 loop-again c =
     let A = c .before .before .before .before .before in
@@ -96,17 +87,5 @@ returns c =
 pub fill-list-spec : {M : Type 1} → statement M
 fill-list-spec =
     tie.close
-    (tie.spec
-    Inv-loop
-    μ-loop
-    clear-requires
-    slice-write-list
-    sub-left
-    cast-left
-    loop-holds
-    fill-words-requires
-    add-t
-    loop-less
-    loop-again
-    same-length
-    returns)
+    (tie.spec Inv-loop μ-loop (λ c κs. search needs) slice-write-list sub-left cast-left loop-holds fill-words-requires
+    (λ c. search needs) (λ c. search needs) loop-again same-length returns)

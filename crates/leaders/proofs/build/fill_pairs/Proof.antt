@@ -64,12 +64,6 @@ fill-units-requires c κs =
     rw (shl-one (o .p) 32 (omega (arith, s .pre .1 .places, c .before .before .loop-test .taken)))
     (pair-trying (a .list .now) (a .cols .now) (a .m) (a .prefix) (a .s) (a .blank) (s .pre .1) (o .p) (o .inv .0) (c .before .before .loop-test .taken) (o .list) (o .left) (o .inv .2))
 
-add-p : tie.Need-add-p Inv-loop μ-loop
-add-p c = search needs
-
-loop-less : tie.Need-loop-less Inv-loop μ-loop
-loop-less c = search needs
-
 loop-again : tie.Need-loop-again Inv-loop μ-loop
 loop-again c =
     let o = c .before .before .before .before .before .before .loop in
@@ -96,18 +90,5 @@ returns c =
 pub fill-pairs-spec : {M : Type 1} → statement M
 fill-pairs-spec =
     tie.close
-    (tie.spec
-    Inv-loop
-    μ-loop
-    loop-holds
-    cast-fill-units
-    shl-fill-units
-    add-fill-units
-    mul-fill-units
-    element-copy-out-fill-units
-    fill-units-requires
-    add-p
-    loop-less
-    loop-again
-    same-length
-    returns)
+    (tie.spec Inv-loop μ-loop loop-holds cast-fill-units shl-fill-units add-fill-units mul-fill-units element-copy-out-fill-units
+    fill-units-requires (λ c. search needs) (λ c. search needs) loop-again same-length returns)

@@ -113,9 +113,6 @@ returns c =
 add-p : tie.Need-add-p Inv-loop μ-loop
 add-p c = record { fits = omega (arith, c .before .before .before .loop-test .taken, c .before .before .before .before .before .pre .places) }
 
-loop-less : tie.Need-loop-less Inv-loop μ-loop
-loop-less c = omega (arith, c .before .before .before .loop-test .taken)
-
 loop-again : tie.Need-loop-again Inv-loop μ-loop
 loop-again c =
     let i = c .before .before .before in
@@ -133,9 +130,6 @@ loop-again c =
     )) (c .if1 .came) in
     next
 
-same-length-2 : tie.Need-same-length-2 Inv-loop μ-loop
-same-length-2 c = c .before .loop .inv .0
-
 returns-2 : tie.Need-returns-2 Inv-loop μ-loop
 returns-2 c =
     let l = c .before .loop in
@@ -146,25 +140,6 @@ returns-2 c =
 pub fill-units-spec : {M : Type 1} → statement M
 fill-units-spec =
     tie.close
-    (tie.spec
-    Inv-loop
-    μ-loop
-    loop-holds
-    mul-x
-    element-copy-out-x
-    cast-x
-    mul-if1
-    slice-read-if1
-    cast-list
-    shl-list
-    add-list
-    mul-list
-    slice-write-list
-    sub-left
-    same-length
-    returns
-    add-p
-    loop-less
-    loop-again
-    same-length-2
-    returns-2)
+    (tie.spec Inv-loop μ-loop loop-holds mul-x element-copy-out-x cast-x mul-if1 slice-read-if1 cast-list shl-list add-list mul-list
+    slice-write-list sub-left same-length returns add-p (λ c. omega (arith, c .before .before .before .loop-test .taken)) loop-again
+    (λ c. c .before .loop .inv .0) returns-2)

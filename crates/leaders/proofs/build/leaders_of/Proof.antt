@@ -15,18 +15,6 @@ use borrow.Author.Needs.{needs}
 use Rattle.leaders.proofs.build.leaders_of.Statement.{statement}
 use Rattle.leaders.proofs.build.leaders_of.Tie as tie
 
-parity-checks-requires : tie.Need-parity-checks-requires
-parity-checks-requires c κs = search needs
-
-enum-told : tie.Need-enum-told
-enum-told c = search needs
-
-enum-told-2 : tie.Need-enum-told-2
-enum-told-2 c = search needs
-
-refused-requires : tie.Need-refused-requires
-refused-requires c κs = search needs
-
 returns : tie.Need-returns
 returns c =
     let p = c .before .before .before in
@@ -42,18 +30,6 @@ accepted : (t : tie.After-enum-told)
 accepted t =
     let a = t .before .before .before .before .before .args in
     accepted-in (a .n) (a .k) (a .rows .now) (sym (t .before .before .parity-checks .ensures .answer) ∙ t .enum-told .given .1)
-
-sub-size : tie.Need-sub-size
-sub-size c = omega (arith, accepted c .range .checks)
-
-cast-size : tie.Need-cast-size
-cast-size c = search needs
-
-shl-size : tie.Need-shl-size
-shl-size c = omega (arith, accepted c .range .checks)
-
-refused-requires-2 : tie.Need-refused-requires-2
-refused-requires-2 c κs = search needs
 
 returns-2 : tie.Need-returns-2
 returns-2 c =
@@ -75,15 +51,6 @@ rows-are : (t : tie.After-enum-told)
     ≡ padded maxChecks (checks (t .before .before .before .before .before .args .n) (t .before .before .before .before .before .args .rows .now))
 rows-are t = rw (t .enum-told .given .1) at (t .before .before .parity-checks .ensures .rows-are)
 
-sub-build : tie.Need-sub-build
-sub-build c = omega (arith, accepted (c .before .before .before) .range .checks)
-
-cast-build : tie.Need-cast-build
-cast-build c = search needs
-
-slice-relend-prefix-build : tie.Need-slice-relend-prefix-build
-slice-relend-prefix-build c = search needs
-
 slice-aggregate-build : tie.Need-slice-aggregate-build
 slice-aggregate-build c =
     let e = c .before .before .before in
@@ -102,9 +69,6 @@ build-requires c κs =
       λ w. rw (rows-are (e .before)) (checks-below (a .n) (a .k) (a .rows .now) A w),
     )
 
-same-length : tie.Need-same-length
-same-length c = search needs
-
 returns-3 : tie.Need-returns-3
 returns-3 c =
     let b = c .before .before in
@@ -119,21 +83,7 @@ returns-3 c =
 pub leaders-of-spec : {M : Type 1} → statement M
 leaders-of-spec =
     tie.close
-    (tie.spec
-    parity-checks-requires
-    enum-told
-    enum-told-2
-    refused-requires
-    returns
-    sub-size
-    cast-size
-    shl-size
-    refused-requires-2
-    returns-2
-    sub-build
-    cast-build
-    slice-relend-prefix-build
-    slice-aggregate-build
-    build-requires
-    same-length
-    returns-3)
+    (tie.spec (λ c κs. search needs) (λ c. search needs) (λ c. search needs) (λ c κs. search needs) returns
+    (λ c. omega (arith, accepted c .range .checks)) (λ c. search needs) (λ c. omega (arith, accepted c .range .checks))
+    (λ c κs. search needs) returns-2 (λ c. omega (arith, accepted (c .before .before .before) .range .checks)) (λ c. search needs)
+    (λ c. search needs) slice-aggregate-build build-requires (λ c. search needs) returns-3)

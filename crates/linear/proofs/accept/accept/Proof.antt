@@ -5,9 +5,6 @@ use borrow.Author.Needs.{needs}
 use Rattle.linear.proofs.accept.accept.Statement.{statement}
 use Rattle.linear.proofs.accept.accept.Tie as tie
 
-reduce-requires : tie.Need-reduce-requires
-reduce-requires c κs = search needs
-
 returns : tie.Need-returns
 returns c =
     let a = c .before .before .args in
@@ -20,4 +17,4 @@ returns c =
     }
 
 pub accept-spec : {M : Type 1} → statement M
-accept-spec = tie.close (tie.spec reduce-requires returns)
+accept-spec = tie.close (tie.spec (λ c κs. search needs) returns)

@@ -38,18 +38,6 @@ abbrev μ-rows : tie.MeasureT-rows
 rows-holds : tie.Need-rows-holds Inv-loop μ-loop Inv-rows μ-rows
 rows-holds c = (search needs, refl, (λ j h. absurd (omega arith)), traced-start (c .before .args .rows .now) 32)
 
-mul-x : tie.Need-mul-x Inv-loop μ-loop Inv-rows μ-rows
-mul-x c = search needs
-
-shared-slice-read-x : tie.Need-shared-slice-read-x Inv-loop μ-loop Inv-rows μ-rows
-shared-slice-read-x c = search needs
-
-cast-m : tie.Need-cast-m Inv-loop μ-loop Inv-rows μ-rows
-cast-m c = search needs
-
-shl-m : tie.Need-shl-m Inv-loop μ-loop Inv-rows μ-rows
-shl-m c = search needs
-
 loop-holds : tie.Need-loop-holds Inv-loop μ-loop Inv-rows μ-rows
 loop-holds c =
     let o = c .before .before in
@@ -58,36 +46,6 @@ loop-holds c =
     let h : i < length rows = c .before .rows-test .taken in
     let e = shl-one i 32 (omega (arith, o .before .before .pre)) in
     (search needs, cleared-start (o .rows .table) (getD rows i 0), rw e (pow-lt h, row-message rows i h))
-
-cast-b : tie.Need-cast-b Inv-loop μ-loop Inv-rows μ-rows
-cast-b c = search needs
-
-shr-b : tie.Need-shr-b Inv-loop μ-loop Inv-rows μ-rows
-shr-b c = search needs
-
-mul-selected : tie.Need-mul-selected Inv-loop μ-loop Inv-rows μ-rows
-mul-selected c = search needs
-
-array-read-selected : tie.Need-array-read-selected Inv-loop μ-loop Inv-rows μ-rows
-array-read-selected c = search needs
-
-selected-requires : tie.Need-selected-requires Inv-loop μ-loop Inv-rows μ-rows
-selected-requires c κs = search needs
-
-mul-selected-2 : tie.Need-mul-selected-2 Inv-loop μ-loop Inv-rows μ-rows
-mul-selected-2 c = search needs
-
-array-read-selected-2 : tie.Need-array-read-selected-2 Inv-loop μ-loop Inv-rows μ-rows
-array-read-selected-2 c = search needs
-
-selected-requires-2 : tie.Need-selected-requires-2 Inv-loop μ-loop Inv-rows μ-rows
-selected-requires-2 c κs = search needs
-
-add-p : tie.Need-add-p Inv-loop μ-loop Inv-rows μ-rows
-add-p c = search needs
-
-loop-less : tie.Need-loop-less Inv-loop μ-loop Inv-rows μ-rows
-loop-less c = search needs
 
 loop-again : tie.Need-loop-again Inv-loop μ-loop Inv-rows μ-rows
 loop-again c =
@@ -126,9 +84,6 @@ left-at t =
     cleared-end 32 (o .rows .table) R (getD (o .before .before .args .rows .now) (o .rows .i) 0) (l .p) (l .x) (l .inv .1)
     (omega (arith, R .size, t .if1 .taken))
 
-cast-q : tie.Need-cast-q Inv-loop μ-loop Inv-rows μ-rows
-cast-q c = omega (arith, trailing-le 32 (c .before .before .loop .x))
-
 put-requires : tie.Need-put-requires Inv-loop μ-loop Inv-rows μ-rows
 put-requires c κs =
     let t = c .before .before in
@@ -152,12 +107,6 @@ put-requires-2 c κs =
       R .size,
       o .rows .inv .3 .size ∙ R .size,
     )
-
-add-i : tie.Need-add-i Inv-loop μ-loop Inv-rows μ-rows
-add-i c = search needs
-
-rows-less : tie.Need-rows-less Inv-loop μ-loop Inv-rows μ-rows
-rows-less c = search needs
 
 rows-again : tie.Need-rows-again Inv-loop μ-loop Inv-rows μ-rows
 rows-again c =
@@ -207,33 +156,8 @@ returns-2 c =
 pub eliminate-spec : {M : Type 1} → statement M
 eliminate-spec =
     tie.close
-    (tie.spec
-    Inv-loop
-    μ-loop
-    Inv-rows
-    μ-rows
-    rows-holds
-    mul-x
-    shared-slice-read-x
-    cast-m
-    shl-m
-    loop-holds
-    cast-b
-    shr-b
-    mul-selected
-    array-read-selected
-    selected-requires
-    mul-selected-2
-    array-read-selected-2
-    selected-requires-2
-    add-p
-    loop-less
-    loop-again
-    cast-q
-    put-requires
-    put-requires-2
-    add-i
-    rows-less
-    rows-again
-    returns
-    returns-2)
+    (tie.spec Inv-loop μ-loop Inv-rows μ-rows rows-holds (λ c. search needs) (λ c. search needs) (λ c. search needs) (λ c. search needs)
+    loop-holds (λ c. search needs) (λ c. search needs) (λ c. search needs) (λ c. search needs) (λ c κs. search needs)
+    (λ c. search needs) (λ c. search needs) (λ c κs. search needs) (λ c. search needs) (λ c. search needs) loop-again
+    (λ c. omega (arith, trailing-le 32 (c .before .before .loop .x))) put-requires put-requires-2 (λ c. search needs)
+    (λ c. search needs) rows-again returns returns-2)

@@ -18,42 +18,6 @@ Inv-loop rows entries₀ q x p₀ entries p = (p ≤ 32) × (entries ≡ over (w
 abbrev μ-loop : tie.MeasureT-loop
 μ-loop rows entries₀ q x p₀ entries p = 32 - p
 
-loop-holds : tie.Need-loop-holds Inv-loop μ-loop
-loop-holds c = search needs
-
-mul-entries : tie.Need-mul-entries Inv-loop μ-loop
-mul-entries c = search needs
-
-element-copy-out-entries : tie.Need-element-copy-out-entries Inv-loop μ-loop
-element-copy-out-entries c = search needs
-
-mul-selected : tie.Need-mul-selected Inv-loop μ-loop
-mul-selected c = search needs
-
-element-copy-out-selected : tie.Need-element-copy-out-selected Inv-loop μ-loop
-element-copy-out-selected c = search needs
-
-cast-selected : tie.Need-cast-selected Inv-loop μ-loop
-cast-selected c = search needs
-
-shr-selected : tie.Need-shr-selected Inv-loop μ-loop
-shr-selected c = search needs
-
-selected-requires : tie.Need-selected-requires Inv-loop μ-loop
-selected-requires c κs = search needs
-
-mul-entries-2 : tie.Need-mul-entries-2 Inv-loop μ-loop
-mul-entries-2 c = search needs
-
-element-write-entries : tie.Need-element-write-entries Inv-loop μ-loop
-element-write-entries c = search needs
-
-add-p : tie.Need-add-p Inv-loop μ-loop
-add-p c = search needs
-
-loop-less : tie.Need-loop-less Inv-loop μ-loop
-loop-less c = search needs
-
 loop-again : tie.Need-loop-again Inv-loop μ-loop
 loop-again c =
     let l = c .before .before .before .before .loop in
@@ -71,12 +35,6 @@ loop-again c =
           ∙ over-set W (a .entries .now) (l .p) _ (omega arith) (omega arith) v,
     )
 
-mul-entries-3 : tie.Need-mul-entries-3 Inv-loop μ-loop
-mul-entries-3 c = search needs
-
-element-write-entries-2 : tie.Need-element-write-entries-2 Inv-loop μ-loop
-element-write-entries-2 c = search needs
-
 returns : tie.Need-returns Inv-loop μ-loop
 returns c =
     let l = c .before .loop in
@@ -91,22 +49,6 @@ returns c =
 pub put-spec : {M : Type 1} → statement M
 put-spec =
     tie.close
-    (tie.spec
-    Inv-loop
-    μ-loop
-    loop-holds
-    mul-entries
-    element-copy-out-entries
-    mul-selected
-    element-copy-out-selected
-    cast-selected
-    shr-selected
-    selected-requires
-    mul-entries-2
-    element-write-entries
-    add-p
-    loop-less
-    loop-again
-    mul-entries-3
-    element-write-entries-2
-    returns)
+    (tie.spec Inv-loop μ-loop (λ c. search needs) (λ c. search needs) (λ c. search needs) (λ c. search needs) (λ c. search needs)
+    (λ c. search needs) (λ c. search needs) (λ c κs. search needs) (λ c. search needs) (λ c. search needs) (λ c. search needs)
+    (λ c. search needs) loop-again (λ c. search needs) (λ c. search needs) returns)

@@ -20,18 +20,6 @@ use native.Mathlib.Omega.{arith}
 use Rattle.linear.proofs.reduce.reduce.Statement.{statement}
 use Rattle.linear.proofs.reduce.reduce.Tie as tie
 
-shape-requires : tie.Need-shape-requires
-shape-requires c κs = search needs
-
-enum-told : tie.Need-enum-told
-enum-told c = search needs
-
-enum-told-2 : tie.Need-enum-told-2
-enum-told-2 c = search needs
-
-refused-requires : tie.Need-refused-requires
-refused-requires c κs = search needs
-
 returns : tie.Need-returns
 returns c =
     let t = c .before in
@@ -46,9 +34,6 @@ eliminate-requires c κs =
     let s : Shaped (a .n) (a .k) (a .rows .now)
     = shape-in (a .n) (a .k) (a .rows .now) (sym (c .before .before .shape .ensures) ∙ c .enum-told .given .1) in
     (omega (arith, s .count, s .range .rows), inside-wide (a .n) 32 (omega (arith, s .range .places)) (a .rows .now) (s .inside))
-
-refused-requires-2 : tie.Need-refused-requires-2
-refused-requires-2 c κs = search needs
 
 returns-2 : tie.Need-returns-2
 returns-2 c =
@@ -78,9 +63,6 @@ table-is f =
     let rows = f .before .before .before .before .before .before .args .rows .now in
     f .before .eliminate .ensures .table ∙ ap (λ (k : ℕ). reduce 32 (take k rows)) (f .if1 .left) ∙ ap (reduce 32) (take-length rows)
 
-slice-aggregate-compact : tie.Need-slice-aggregate-compact
-slice-aggregate-compact c = search needs
-
 compact-requires : tie.Need-compact-requires
 compact-requires c κs =
     let f = c .before .before .before in
@@ -102,15 +84,5 @@ returns-3 c =
 pub reduce-spec : {M : Type 1} → statement M
 reduce-spec =
     tie.close
-    (tie.spec
-    shape-requires
-    enum-told
-    enum-told-2
-    refused-requires
-    returns
-    eliminate-requires
-    refused-requires-2
-    returns-2
-    slice-aggregate-compact
-    compact-requires
-    returns-3)
+    (tie.spec (λ c κs. search needs) (λ c. search needs) (λ c. search needs) (λ c κs. search needs) returns eliminate-requires
+    (λ c κs. search needs) returns-2 (λ c. search needs) compact-requires returns-3)

@@ -7,15 +7,6 @@ use borrow.Author.Needs.{needs}
 use Rattle.outcomes.proofs.causes.batch_cause.Statement.{statement}
 use Rattle.outcomes.proofs.causes.batch_cause.Tie as tie
 
-accept-requires : tie.Need-accept-requires
-accept-requires c κs = search needs
-
-enum-told : tie.Need-enum-told
-enum-told c = search needs
-
-enum-told-2 : tie.Need-enum-told-2
-enum-told-2 c = search needs
-
 -- causes 1 to 4 have passed
 matrix : (c : tie.After-enum-told) → matrixAnswer (c .before .before .before .before .before .args .n) (c .before .before .before .before .before .args .k) (c .before .before .before .before .before .args .rows .now) ≡ Done
 matrix c = sym (c .before .before .accept .ensures .answer) ∙ c .enum-told .given .1
@@ -31,12 +22,6 @@ returns c =
 
 radius-cause-requires : tie.Need-radius-cause-requires
 radius-cause-requires c κs = accepted c
-
-enum-told-3 : tie.Need-enum-told-3
-enum-told-3 c = search needs
-
-enum-told-4 : tie.Need-enum-told-4
-enum-told-4 c = search needs
 
 returns-2 : tie.Need-returns-2
 returns-2 c =
@@ -57,14 +42,5 @@ returns-3 c =
 pub batch-cause-spec : {M : Type 1} → statement M
 batch-cause-spec =
     tie.close
-    (tie.spec
-    accept-requires
-    enum-told
-    enum-told-2
-    returns
-    radius-cause-requires
-    enum-told-3
-    enum-told-4
-    returns-2
-    lists-cause-requires
-    returns-3)
+    (tie.spec (λ c κs. search needs) (λ c. search needs) (λ c. search needs) returns radius-cause-requires (λ c. search needs)
+    (λ c. search needs) returns-2 lists-cause-requires returns-3)

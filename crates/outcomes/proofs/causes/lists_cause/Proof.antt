@@ -12,18 +12,6 @@ use borrow.Author.Needs.{needs}
 use Rattle.outcomes.proofs.causes.lists_cause.Statement.{statement}
 use Rattle.outcomes.proofs.causes.lists_cause.Tie as tie
 
-smaller-requires : tie.Need-smaller-requires
-smaller-requires c κs = search needs
-
-list-cause-requires : tie.Need-list-cause-requires
-list-cause-requires c κs = search needs
-
-enum-told : tie.Need-enum-told
-enum-told c = search needs
-
-enum-told-2 : tie.Need-enum-told-2
-enum-told-2 c = search needs
-
 size-is : (s : tie.Start) → (1 * 2 ^ (s .args .n - s .args .k)) % 2 ^ 64 ≡ 2 ^ (s .args .n - s .args .k)
 size-is s = shl-one (s .args .n - s .args .k) 64 (omega (arith, s .pre .checks))
 
@@ -43,15 +31,6 @@ returns c =
     let l = c .before .before .list-cause .ensures ∙ ap (listAnswer (a .words .now) (a .n)) (c .before .before .before .smaller .ensures) in
     e ∙ at-list (a .n) (a .k) (a .words .now) (a .slots) (a .bytes) (a .room) _ (sym l ∙ e)
 
-sub-size : tie.Need-sub-size
-sub-size c = omega (arith, c .before .before .before .before .before .pre .checks)
-
-cast-size : tie.Need-cast-size
-cast-size c = search needs
-
-shl-size : tie.Need-shl-size
-shl-size c = omega (arith, c .before .before .before .before .before .pre .checks)
-
 returns-2 : tie.Need-returns-2
 returns-2 c =
     let s = c .before .before .before .before .before .before in
@@ -65,14 +44,6 @@ returns-3 c =
 pub lists-cause-spec : {M : Type 1} → statement M
 lists-cause-spec =
     tie.close
-    (tie.spec
-    smaller-requires
-    list-cause-requires
-    enum-told
-    enum-told-2
-    returns
-    sub-size
-    cast-size
-    shl-size
-    returns-2
-    returns-3)
+    (tie.spec (λ c κs. search needs) (λ c κs. search needs) (λ c. search needs) (λ c. search needs) returns
+    (λ c. omega (arith, c .before .before .before .before .before .pre .checks)) (λ c. search needs)
+    (λ c. omega (arith, c .before .before .before .before .before .pre .checks)) returns-2 returns-3)

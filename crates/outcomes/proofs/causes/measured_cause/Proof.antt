@@ -11,18 +11,6 @@ use borrow.Author.Needs.{needs}
 use Rattle.outcomes.proofs.causes.measured_cause.Statement.{statement}
 use Rattle.outcomes.proofs.causes.measured_cause.Tie as tie
 
-weights-of-requires : tie.Need-weights-of-requires
-weights-of-requires c κs = search needs
-
-enum-told : tie.Need-enum-told
-enum-told c = search needs
-
-enum-told-2 : tie.Need-enum-told-2
-enum-told-2 c = search needs
-
-unmeasured-requires : tie.Need-unmeasured-requires
-unmeasured-requires c κs = search needs
-
 -- causes 1 to 4 have passed
 matrix : (c : tie.After-enum-told) → matrixAnswer (c .before .before .before .before .before .args .n) (c .before .before .before .before .before .args .k) (c .before .before .before .before .before .args .rows .now) ≡ Done
 matrix c = sym (c .before .before .weights-of .ensures .answer) ∙ c .enum-told .given .1
@@ -52,15 +40,6 @@ returns c =
 radius-test-requires : tie.Need-radius-test-requires
 radius-test-requires c κs = measured c .1
 
-enum-told-3 : tie.Need-enum-told-3
-enum-told-3 c = search needs
-
-enum-told-4 : tie.Need-enum-told-4
-enum-told-4 c = search needs
-
-unmeasured-requires-2 : tie.Need-unmeasured-requires-2
-unmeasured-requires-2 c κs = search needs
-
 returns-2 : tie.Need-returns-2
 returns-2 c =
     let a = c .before .before .before .before .before .before .before .before .before .args in
@@ -74,15 +53,6 @@ returns-2 c =
 lists-cause-requires : tie.Need-lists-cause-requires
 lists-cause-requires c κs = accepted-in _ _ _ (matrix (c .before .before .before)) .range
 
-enum-told-5 : tie.Need-enum-told-5
-enum-told-5 c = search needs
-
-enum-told-6 : tie.Need-enum-told-6
-enum-told-6 c = search needs
-
-unmeasured-requires-3 : tie.Need-unmeasured-requires-3
-unmeasured-requires-3 c κs = search needs
-
 returns-3 : tie.Need-returns-3
 returns-3 c =
     let u = c .unmeasured3 .ensures in
@@ -94,20 +64,6 @@ returns-4 c = (listed (c .before .before), rw (c .enum-told5 .given .1) (measure
 pub measured-cause-spec : {M : Type 1} → statement M
 measured-cause-spec =
     tie.close
-    (tie.spec
-    weights-of-requires
-    enum-told
-    enum-told-2
-    unmeasured-requires
-    returns
-    radius-test-requires
-    enum-told-3
-    enum-told-4
-    unmeasured-requires-2
-    returns-2
-    lists-cause-requires
-    enum-told-5
-    enum-told-6
-    unmeasured-requires-3
-    returns-3
-    returns-4)
+    (tie.spec (λ c κs. search needs) (λ c. search needs) (λ c. search needs) (λ c κs. search needs) returns radius-test-requires
+    (λ c. search needs) (λ c. search needs) (λ c κs. search needs) returns-2 lists-cause-requires (λ c. search needs)
+    (λ c. search needs) (λ c κs. search needs) returns-3 returns-4)

@@ -9,18 +9,6 @@ use borrow.Author.Needs.{needs}
 use Rattle.outcomes.proofs.causes.radius_cause.Statement.{statement}
 use Rattle.outcomes.proofs.causes.radius_cause.Tie as tie
 
-enum-told : tie.Need-enum-told
-enum-told c = search needs
-
-enum-told-2 : tie.Need-enum-told-2
-enum-told-2 c = search needs
-
-returns : tie.Need-returns
-returns c = search needs
-
-weights-of-requires : tie.Need-weights-of-requires
-weights-of-requires c κs = search needs
-
 measured : (c : tie.After-weights-of) → (c .weights-of .result .dmin ≡ dmin (c .before .before .before .before .args .rows .now)) × (1 ≤ c .weights-of .result .dmin)
 measured c =
     let s = c .before .before .before .before in
@@ -35,4 +23,4 @@ returns-2 c = c .radius-test .ensures ∙ ap (radiusAnswer (c .before .before .b
 pub radius-cause-spec : {M : Type 1} → statement M
 radius-cause-spec =
     tie.close
-    (tie.spec enum-told enum-told-2 returns weights-of-requires radius-test-requires returns-2)
+    (tie.spec (λ c. search needs) (λ c. search needs) (λ c. search needs) (λ c κs. search needs) radius-test-requires returns-2)

@@ -4,18 +4,6 @@ use borrow.Author.Needs.{needs}
 use Rattle.outcomes.proofs.causes.radius_test.Statement.{statement}
 use Rattle.outcomes.proofs.causes.radius_test.Tie as tie
 
-enum-known-reading : tie.Need-enum-known-reading
-enum-known-reading c = search needs
-
-enum-told : tie.Need-enum-told
-enum-told c = search needs
-
-returns : tie.Need-returns
-returns c = search needs
-
-sub-if1 : tie.Need-sub-if1
-sub-if1 c = search needs
-
 returns-2 : tie.Need-returns-2
 returns-2 c = rw (c .before .before .reading .given .1) (radius-large _ (c .before .before .before .before .args .d) (c .before .before .before .before .pre) (c .if1 .taken))
 
@@ -24,4 +12,5 @@ returns-3 c = rw (c .before .before .reading .given .1) (radius-fits _ (c .befor
 
 pub radius-test-spec : {M : Type 1} → statement M
 radius-test-spec =
-    tie.close (tie.spec enum-known-reading enum-told returns sub-if1 returns-2 returns-3)
+    tie.close
+    (tie.spec (λ c. search needs) (λ c. search needs) (λ c. search needs) (λ c. search needs) returns-2 returns-3)

@@ -7,21 +7,6 @@ use native.Mathlib.Omega.{arith}
 use Rattle.outcomes.proofs.outcome.judged.Statement.{statement}
 use Rattle.outcomes.proofs.outcome.judged.Tie as tie
 
-weight-requires : tie.Need-weight-requires
-weight-requires c κs = search needs
-
-returns : tie.Need-returns
-returns c = simp (eq-eqb _ 0 (sym (c .before .weight .ensures) ∙ c .if1 .taken))
-
-enum-known-reading : tie.Need-enum-known-reading
-enum-known-reading c = search needs
-
-enum-told : tie.Need-enum-told
-enum-told c = search needs
-
-sum-requires : tie.Need-sum-requires
-sum-requires c κs = search needs
-
 cast-t8 : tie.Need-cast-t8
 cast-t8 c =
     let w = c .before .before .before .before in
@@ -32,9 +17,6 @@ returns-2 c =
     let i = c .before .before .before in
     let w = i .before in
     simp (c .before .enum-told .given .1, ne-eqb _ 0 (λ e. i .if1 .left (w .weight .ensures ∙ e)), c .sum .ensures, w .weight .ensures)
-
-sum-requires-2 : tie.Need-sum-requires-2
-sum-requires-2 c κs = search needs
 
 cast-t10 : tie.Need-cast-t10
 cast-t10 c =
@@ -66,15 +48,5 @@ returns-4 c =
 pub judged-spec : {M : Type 1} → statement M
 judged-spec =
     tie.close
-    (tie.spec
-    weight-requires
-    returns
-    enum-known-reading
-    enum-told
-    sum-requires
-    cast-t8
-    returns-2
-    sum-requires-2
-    cast-t10
-    returns-3
-    returns-4)
+    (tie.spec (λ c κs. search needs) (λ c. simp (eq-eqb _ 0 (sym (c .before .weight .ensures) ∙ c .if1 .taken))) (λ c. search needs)
+    (λ c. search needs) (λ c κs. search needs) cast-t8 returns-2 (λ c κs. search needs) cast-t10 returns-3 returns-4)

@@ -5,21 +5,6 @@ use borrow.Author.Needs.{needs}
 use Rattle.sheet.proofs.field.content_of.Statement.{statement}
 use Rattle.sheet.proofs.field.content_of.Tie as tie
 
-byte-content-requires : tie.Need-byte-content-requires
-byte-content-requires c κs = search needs
-
-byte-content-requires-2 : tie.Need-byte-content-requires-2
-byte-content-requires-2 c κs = search needs
-
-words-content-requires : tie.Need-words-content-requires
-words-content-requires c κs = search needs
-
-byte-content-requires-3 : tie.Need-byte-content-requires-3
-byte-content-requires-3 c κs = search needs
-
-words-content-requires-2 : tie.Need-words-content-requires-2
-words-content-requires-2 c κs = search needs
-
 returns : tie.Need-returns
 unfolding contentOf
 returns c = simp (c .before .match .keys1) (c .byte-content .ensures)
@@ -47,15 +32,5 @@ returns-6 c = simp (ne-eqb _ 1 (c .match .rest .0 .0 .0 .0 .1), ne-eqb _ 2 (c .m
 pub content-of-spec : {M : Type 1} → statement M
 content-of-spec =
     tie.close
-    (tie.spec
-    byte-content-requires
-    byte-content-requires-2
-    words-content-requires
-    byte-content-requires-3
-    words-content-requires-2
-    returns
-    returns-2
-    returns-3
-    returns-4
-    returns-5
-    returns-6)
+    (tie.spec (λ c κs. search needs) (λ c κs. search needs) (λ c κs. search needs) (λ c κs. search needs) (λ c κs. search needs) returns
+    returns-2 returns-3 returns-4 returns-5 returns-6)

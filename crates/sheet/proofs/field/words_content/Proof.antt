@@ -3,11 +3,5 @@ use borrow.Author.Tests.{eq-eqb, ne-eqb}
 use Rattle.sheet.proofs.field.words_content.Statement.{statement}
 use Rattle.sheet.proofs.field.words_content.Tie as tie
 
-returns : tie.Need-returns
-returns c = simp (ne-eqb _ 0 (c .if1 .taken))
-
-returns-2 : tie.Need-returns-2
-returns-2 c = simp (eq-eqb _ 0 (c .if1 .left))
-
 pub words-content-spec : {M : Type 1} → statement M
-words-content-spec = tie.close (tie.spec returns returns-2)
+words-content-spec = tie.close (tie.spec (λ c. simp (ne-eqb _ 0 (c .if1 .taken))) (λ c. simp (eq-eqb _ 0 (c .if1 .left))))

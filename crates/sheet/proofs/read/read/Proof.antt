@@ -40,18 +40,6 @@ returns c = sheet-read (c .before .before .args .bytes .now) _ (simp (lt-ltb _ _
 loop-holds : tie.Need-loop-holds Inv-loop μ-loop
 loop-holds c = (search needs, search needs, refl, (length (c .before .before .args .bytes .now), search needs, refl))
 
-field-at-requires : tie.Need-field-at-requires Inv-loop μ-loop
-field-at-requires c κs = search needs
-
-enum-known-f : tie.Need-enum-known-f Inv-loop μ-loop
-enum-known-f c = search needs
-
-enum-told : tie.Need-enum-told Inv-loop μ-loop
-enum-told c = search needs
-
-refusal-requires : tie.Need-refusal-requires Inv-loop μ-loop
-refusal-requires c κs = search needs
-
 returns-2 : tie.Need-returns-2 Inv-loop μ-loop
 unfolding sheetOf
 returns-2 c =
@@ -63,15 +51,6 @@ returns-2 c =
     (c .refusal .ensures _ (v .1)
     ∙ sym (l .inv .3 .2 ∙ stops-at (l .inv .3 .0) s (l .at) (l .last) (l .contents) (v .0 .0) (omega arith) (r .before .loop-test .taken)
     (sym (r .field-at .ensures) ∙ v .1))))
-
-cast-contents : tie.Need-cast-contents Inv-loop μ-loop
-cast-contents c = search needs
-
-mul-contents : tie.Need-mul-contents Inv-loop μ-loop
-mul-contents c = search needs
-
-array-set-from-contents : tie.Need-array-set-from-contents Inv-loop μ-loop
-array-set-from-contents c = omega (arith, was c .known)
 
 loop-less : tie.Need-loop-less Inv-loop μ-loop
 loop-less c =
@@ -93,9 +72,6 @@ loop-again c =
       (o .0, omega (arith, w .longer, o .1, l .inv .3 .1), l .inv .3 .2 ∙ o .2),
     )
 
-sheet-in-requires : tie.Need-sheet-in-requires Inv-loop μ-loop
-sheet-in-requires c κs = c .before .loop .inv .2
-
 returns-3 : tie.Need-returns-3 Inv-loop μ-loop
 unfolding sheetOf
 returns-3 c =
@@ -107,20 +83,6 @@ returns-3 c =
 pub read-spec : {M : Type 1} → statement M
 read-spec =
     tie.close
-    (tie.spec
-    Inv-loop
-    μ-loop
-    returns
-    loop-holds
-    field-at-requires
-    enum-known-f
-    enum-told
-    refusal-requires
-    returns-2
-    cast-contents
-    mul-contents
-    array-set-from-contents
-    loop-less
-    loop-again
-    sheet-in-requires
-    returns-3)
+    (tie.spec Inv-loop μ-loop returns loop-holds (λ c κs. search needs) (λ c. search needs) (λ c. search needs) (λ c κs. search needs)
+    returns-2 (λ c. search needs) (λ c. search needs) (λ c. omega (arith, was c .known)) loop-less loop-again
+    (λ c κs. c .before .loop .inv .2) returns-3)

@@ -7,31 +7,13 @@ use borrow.Author.Needs.{needs}
 use Rattle.sheet.proofs.read.sheet_in.Statement.{statement}
 use Rattle.sheet.proofs.read.sheet_in.Tie as tie
 
-array-copy-out-c1 : tie.Need-array-copy-out-c1
-array-copy-out-c1 c = search needs
-
-enum-known-c1 : tie.Need-enum-known-c1
-enum-known-c1 c = search needs
-
 returns : tie.Need-returns
 returns c = no-byte (getD (c .before .before .args .t1) 1 Absent) (c .match .keys2) _ _
-
-array-copy-out-c2 : tie.Need-array-copy-out-c2
-array-copy-out-c2 c = search needs
-
-enum-known-c2 : tie.Need-enum-known-c2
-enum-known-c2 c = search needs
 
 returns-2 : tie.Need-returns-2
 returns-2 c =
     let a = c .before .before .before .before .before .before .args in
     simp (c .before .before .before .c12 .given .1) (no-byte (getD (a .t1) 2 Absent) (c .match2 .keys2) _ _)
-
-array-copy-out-c3 : tie.Need-array-copy-out-c3
-array-copy-out-c3 c = search needs
-
-enum-known-c3 : tie.Need-enum-known-c3
-enum-known-c3 c = search needs
 
 returns-3 : tie.Need-returns-3
 returns-3 c =
@@ -40,12 +22,6 @@ returns-3 c =
     let a = n .before .before .before .args in
     simp (n .c12 .given .1, k .c22 .given .1) (no-words (getD (a .t1) 3 Absent) (c .match3 .keys2) _ _)
 
-array-copy-out-c5 : tie.Need-array-copy-out-c5
-array-copy-out-c5 c = search needs
-
-enum-known-c5 : tie.Need-enum-known-c5
-enum-known-c5 c = search needs
-
 returns-4 : tie.Need-returns-4
 returns-4 c =
     let r = c .before .before .before in
@@ -53,18 +29,6 @@ returns-4 c =
     let n = k .before .before .before .before in
     let a = n .before .before .before .args in
     simp (n .c12 .given .1, k .c22 .given .1, r .c32 .given .1) (no-words (getD (a .t1) 5 Absent) (c .match4 .keys2) _ _)
-
-array-copy-out-c4 : tie.Need-array-copy-out-c4
-array-copy-out-c4 c = search needs
-
-reading-of-requires : tie.Need-reading-of-requires
-reading-of-requires c κs = search needs
-
-cast-t29 : tie.Need-cast-t29
-cast-t29 c = search needs
-
-cast-t30 : tie.Need-cast-t30
-cast-t30 c = search needs
 
 returns-5 : tie.Need-returns-5
 returns-5 c =
@@ -77,21 +41,6 @@ returns-5 c =
 pub sheet-in-spec : {M : Type 1} → statement M
 sheet-in-spec =
     tie.close
-    (tie.spec
-    array-copy-out-c1
-    enum-known-c1
-    returns
-    array-copy-out-c2
-    enum-known-c2
-    returns-2
-    array-copy-out-c3
-    enum-known-c3
-    returns-3
-    array-copy-out-c5
-    enum-known-c5
-    returns-4
-    array-copy-out-c4
-    reading-of-requires
-    cast-t29
-    cast-t30
-    returns-5)
+    (tie.spec (λ c. search needs) (λ c. search needs) returns (λ c. search needs) (λ c. search needs) returns-2 (λ c. search needs)
+    (λ c. search needs) returns-3 (λ c. search needs) (λ c. search needs) returns-4 (λ c. search needs) (λ c κs. search needs)
+    (λ c. search needs) (λ c. search needs) returns-5)

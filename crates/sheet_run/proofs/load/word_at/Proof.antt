@@ -7,18 +7,6 @@ use borrow.Author.Needs.{needs}
 use Rattle.sheet_run.proofs.load.word_at.Statement.{statement}
 use Rattle.sheet_run.proofs.load.word_at.Tie as tie
 
-shared-slice-read-result : tie.Need-shared-slice-read-result
-shared-slice-read-result c = search needs
-
-cast-result : tie.Need-cast-result
-cast-result c = omega (arith, c .shared-slice-known .given (c .before .args .at))
-
-add-result : tie.Need-add-result
-add-result c = search needs
-
-shared-slice-read-result-2 : tie.Need-shared-slice-read-result-2
-shared-slice-read-result-2 c = search needs
-
 cast-result-2 : tie.Need-cast-result-2
 cast-result-2 c = omega (arith, c .shared-slice-known2 .given (c .before .before .args .at), c .shared-slice-known2 .given (c .before .before .args .at + 1))
 
@@ -27,12 +15,6 @@ mul-result c = omega (arith, c .shared-slice-known2 .given (c .before .before .a
 
 add-result-2 : tie.Need-add-result-2
 add-result-2 c = omega (arith, c .shared-slice-known2 .given (c .before .before .args .at), c .shared-slice-known2 .given (c .before .before .args .at + 1))
-
-add-result-3 : tie.Need-add-result-3
-add-result-3 c = search needs
-
-shared-slice-read-result-3 : tie.Need-shared-slice-read-result-3
-shared-slice-read-result-3 c = search needs
 
 cast-result-3 : tie.Need-cast-result-3
 cast-result-3 c =
@@ -51,12 +33,6 @@ add-result-4 c =
     let at = c .before .before .before .args .at in
     let g = c .shared-slice-known3 .given in
     omega (arith, g at, g (at + 1), g (at + 2))
-
-add-result-5 : tie.Need-add-result-5
-add-result-5 c = search needs
-
-shared-slice-read-result-4 : tie.Need-shared-slice-read-result-4
-shared-slice-read-result-4 c = search needs
 
 cast-result-4 : tie.Need-cast-result-4
 cast-result-4 c =
@@ -83,22 +59,6 @@ returns c = refl
 pub word-at-spec : {M : Type 1} → statement M
 word-at-spec =
     tie.close
-    (tie.spec
-    shared-slice-read-result
-    cast-result
-    add-result
-    shared-slice-read-result-2
-    cast-result-2
-    mul-result
-    add-result-2
-    add-result-3
-    shared-slice-read-result-3
-    cast-result-3
-    mul-result-2
-    add-result-4
-    add-result-5
-    shared-slice-read-result-4
-    cast-result-4
-    mul-result-3
-    add-result-6
-    returns)
+    (tie.spec (λ c. search needs) (λ c. omega (arith, c .shared-slice-known .given (c .before .args .at))) (λ c. search needs)
+    (λ c. search needs) cast-result-2 mul-result add-result-2 (λ c. search needs) (λ c. search needs) cast-result-3 mul-result-2
+    add-result-4 (λ c. search needs) (λ c. search needs) cast-result-4 mul-result-3 add-result-6 returns)

@@ -25,22 +25,6 @@ abbrev put-decimal-below : ℕ → In 1 put-decimal-kinds.ps
 put-decimal-below t =
     and 1 put-decimal-kinds.ps (falls 1 put-decimal-kinds.ps _<_ μ-put-decimal t) put-decimal.Pre
 
-put-decimal-cast-put : (t : ℕ) → put-decimal-lts.Need-cast-put (
-  put-reads.Asked,
-  put-reads.Learnt,
-  put-decimal-below t,
-  put-decimal.Post,
-) (put-decimal-at t) put-decimal.Post
-put-decimal-cast-put t c = omega arith
-
-put-decimal-add-put : (t : ℕ) → put-decimal-lts.Need-add-put (
-  put-reads.Asked,
-  put-reads.Learnt,
-  put-decimal-below t,
-  put-decimal.Post,
-) (put-decimal-at t) put-decimal.Post
-put-decimal-add-put t c = omega arith
-
 put-decimal-put-requires : (t : ℕ) → put-decimal-lts.Need-put-requires (
   put-reads.Asked,
   put-reads.Learnt,
@@ -80,22 +64,6 @@ put-decimal-put-decimal-requires t c κs =
     let m = decimal-tenth (s .args .x) (c .before .if1 .left) in
     (omega (arith, s .pre .0), omega (arith, s .pre .1, m))
 
-put-decimal-cast-put-2 : (t : ℕ) → put-decimal-lts.Need-cast-put-2 (
-  put-reads.Asked,
-  put-reads.Learnt,
-  put-decimal-below t,
-  put-decimal.Post,
-) (put-decimal-at t) put-decimal.Post
-put-decimal-cast-put-2 t c = omega arith
-
-put-decimal-add-put-2 : (t : ℕ) → put-decimal-lts.Need-add-put-2 (
-  put-reads.Asked,
-  put-reads.Learnt,
-  put-decimal-below t,
-  put-decimal.Post,
-) (put-decimal-at t) put-decimal.Post
-put-decimal-add-put-2 t c = omega arith
-
 put-decimal-put-requires-2 : (t : ℕ) → put-decimal-lts.Need-put-requires-2 (
   put-reads.Asked,
   put-reads.Learnt,
@@ -126,22 +94,7 @@ put-decimal-returns-2 t c =
     rw (decimal-more (s .args .x) (c .before .before .before .before .before .before .before .before .if1 .left)) (then (c .before .before .before .before .before .before .put-decimal .ensures) (c .before .before .put2 .ensures))
 
 pub +put-decimal-spec : {M : Type 1} → statement M
-+put-decimal-spec = close μ-put-decimal λ t. put-decimal-lts.spec (
-  put-reads.Asked,
-  put-reads.Learnt,
-  put-decimal-below t,
-  put-decimal.Post,
-)
-    (put-decimal-at t)
-    put-decimal.Post
-    (put-decimal-cast-put t)
-    (put-decimal-add-put t)
-    (put-decimal-put-requires t)
-    (put-decimal-same-length t)
-    (put-decimal-returns t)
-    (put-decimal-put-decimal-requires t)
-    (put-decimal-cast-put-2 t)
-    (put-decimal-add-put-2 t)
-    (put-decimal-put-requires-2 t)
-    (put-decimal-same-length-2 t)
-    (put-decimal-returns-2 t)
++put-decimal-spec = close μ-put-decimal λ t. put-decimal-lts.spec (put-reads.Asked, put-reads.Learnt, put-decimal-below t, put-decimal.Post)
+    (put-decimal-at t) put-decimal.Post (λ c. omega arith) (λ c. omega arith) (put-decimal-put-requires t) (put-decimal-same-length t)
+    (put-decimal-returns t) (put-decimal-put-decimal-requires t) (λ c. omega arith) (λ c. omega arith) (put-decimal-put-requires-2 t)
+    (put-decimal-same-length-2 t) (put-decimal-returns-2 t)

@@ -26,12 +26,6 @@ loop-holds c =
     let a = c .args in
     (search needs, rw add-zero (appends-none (a .out .now) (a .at) (omega (arith, c .pre .1))))
 
-cast-out : tie.Need-cast-out Inv-loop μ-loop
-cast-out c = omega (arith, c .before .before .pre .0)
-
-shr-out : tie.Need-shr-out Inv-loop μ-loop
-shr-out c = omega (arith, c .before .before .pre .0)
-
 cast-out-2 : tie.Need-cast-out-2 Inv-loop μ-loop
 cast-out-2 c = omega (arith, mask-lt (c .before .before .args .w / 2 ^ c .before .loop .p) 1)
 
@@ -43,12 +37,6 @@ add-out-2 c = omega (arith, c .before .loop .inv .1 .fits, c .before .before .pr
 
 slice-write-out : tie.Need-slice-write-out Inv-loop μ-loop
 slice-write-out c = omega (arith, c .before .before .pre .1, appends-length (c .before .loop .inv .1))
-
-add-p : tie.Need-add-p Inv-loop μ-loop
-add-p c = search needs
-
-loop-less : tie.Need-loop-less Inv-loop μ-loop
-loop-less c = search needs
 
 loop-again : tie.Need-loop-again Inv-loop μ-loop
 unfolding digitsOf
@@ -76,19 +64,5 @@ returns c =
 pub put-digits-spec : {M : Type 1} → statement M
 put-digits-spec =
     tie.close
-    (tie.spec
-    Inv-loop
-    μ-loop
-    loop-holds
-    cast-out
-    shr-out
-    cast-out-2
-    add-out
-    add-out-2
-    slice-write-out
-    add-p
-    loop-less
-    loop-again
-    add-result
-    same-length
-    returns)
+    (tie.spec Inv-loop μ-loop loop-holds (λ c. omega (arith, c .before .before .pre .0)) (λ c. omega (arith, c .before .before .pre .0))
+    cast-out-2 add-out add-out-2 slice-write-out (λ c. search needs) (λ c. search needs) loop-again add-result same-length returns)

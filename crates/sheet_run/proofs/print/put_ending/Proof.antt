@@ -6,15 +6,6 @@ use borrow.Author.Needs.{needs}
 use Rattle.sheet_run.proofs.print.put_ending.Statement.{statement}
 use Rattle.sheet_run.proofs.print.put_ending.Tie as tie
 
-slice-aggregate-put-text : tie.Need-slice-aggregate-put-text
-slice-aggregate-put-text c = search needs
-
-put-text-requires : tie.Need-put-text-requires
-put-text-requires c κs = search needs
-
-same-length : tie.Need-same-length
-same-length c = search needs
-
 returns : tie.Need-returns
 returns c =
     let A = c .before .before .put-text .ensures in
@@ -25,9 +16,6 @@ put-decimal-requires c κs =
     let s = c .before .before .before in
     omega (arith, s .pre, decimal-byte (s .args .count) (s .fits .count .fits))
 
-same-length-2 : tie.Need-same-length-2
-same-length-2 c = search needs
-
 returns-2 : tie.Need-returns-2
 returns-2 c =
     let s = c .before .before .before .before .before .before in
@@ -37,11 +25,4 @@ returns-2 c =
 pub put-ending-spec : {M : Type 1} → statement M
 put-ending-spec =
     tie.close
-    (tie.spec
-    slice-aggregate-put-text
-    put-text-requires
-    same-length
-    returns
-    put-decimal-requires
-    same-length-2
-    returns-2)
+    (tie.spec (λ c. search needs) (λ c κs. search needs) (λ c. search needs) returns put-decimal-requires (λ c. search needs) returns-2)

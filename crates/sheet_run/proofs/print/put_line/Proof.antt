@@ -6,9 +6,6 @@ use borrow.Author.Needs.{needs}
 use Rattle.sheet_run.proofs.print.put_line.Statement.{statement}
 use Rattle.sheet_run.proofs.print.put_line.Tie as tie
 
-put-digits-requires : tie.Need-put-digits-requires
-put-digits-requires c κs = search needs
-
 put-requires : tie.Need-put-requires
 put-requires c κs =
     let s = c .before .before .before .before .before .before in
@@ -30,9 +27,6 @@ put-requires-2 c κs =
     let C = c .before .before .before .put-ending .ensures in
     omega (arith, s .pre, A .ends, appends-length A, B .ends, appends-length B, appends-length (C .0), C .1, length-digits (s .args .n) (s .args .c))
 
-same-length : tie.Need-same-length
-same-length c = search needs
-
 returns : tie.Need-returns
 returns c =
     let s = c .before .before .before .before .before .before .before .before .before .before .before .before .before .before .before .before .before in
@@ -46,12 +40,4 @@ returns c =
     )
 
 pub put-line-spec : {M : Type 1} → statement M
-put-line-spec =
-    tie.close
-    (tie.spec
-    put-digits-requires
-    put-requires
-    put-ending-requires
-    put-requires-2
-    same-length
-    returns)
+put-line-spec = tie.close (tie.spec (λ c κs. search needs) put-requires put-ending-requires put-requires-2 (λ c. search needs) returns)

@@ -26,12 +26,6 @@ loop-holds c =
       appends-as (appends-none (a .out .now) (a .at) (omega (arith, s .pre))) _ (slot-lines-none (a .n) (a .codewords .now) (a .counts .now)),
     )
 
-mul-put-line : tie.Need-mul-put-line Inv-loop μ-loop
-mul-put-line c = search needs
-
-shared-slice-read-put-line : tie.Need-shared-slice-read-put-line Inv-loop μ-loop
-shared-slice-read-put-line c = search needs
-
 shared-slice-read-put-line-2 : tie.Need-shared-slice-read-put-line-2 Inv-loop μ-loop
 shared-slice-read-put-line-2 c = omega (arith, c .before .before .before .before .before .before .before .before .pre .1)
 
@@ -40,12 +34,6 @@ put-line-requires c κs =
     let s = c .before .before .before .before .before .before .before .before in
     let l = c .before .before .before .before .loop in
     (s .pre .0, omega (arith, s .pre .2, appends-length (l .inv .2), l .inv .1))
-
-add-i : tie.Need-add-i Inv-loop μ-loop
-add-i c = search needs
-
-loop-less : tie.Need-loop-less Inv-loop μ-loop
-loop-less c = search needs
 
 loop-again : tie.Need-loop-again Inv-loop μ-loop
 loop-again c =
@@ -72,16 +60,5 @@ returns c =
 pub put-lines-spec : {M : Type 1} → statement M
 put-lines-spec =
     tie.close
-    (tie.spec
-    Inv-loop
-    μ-loop
-    loop-holds
-    mul-put-line
-    shared-slice-read-put-line
-    shared-slice-read-put-line-2
-    put-line-requires
-    add-i
-    loop-less
-    loop-again
-    same-length
-    returns)
+    (tie.spec Inv-loop μ-loop loop-holds (λ c. search needs) (λ c. search needs) shared-slice-read-put-line-2 put-line-requires
+    (λ c. search needs) (λ c. search needs) loop-again same-length returns)

@@ -17,9 +17,6 @@ put-requires c κs =
     let A = c .before .before .before .put-decimal .ensures in
     omega (arith, s .pre, A .ends, appends-length A, decimal-word (s .args .x) (s .fits .x .fits))
 
-same-length : tie.Need-same-length
-same-length c = search needs
-
 returns : tie.Need-returns
 returns c =
     let s = c .before .before .before .before .before .before .before .before .before in
@@ -28,4 +25,4 @@ returns c =
     (then A B, omega (arith, A .ends, B .ends, decimal-word (s .args .x) (s .fits .x .fits)))
 
 pub put-number-spec : {M : Type 1} → statement M
-put-number-spec = tie.close (tie.spec put-decimal-requires put-requires same-length returns)
+put-number-spec = tie.close (tie.spec put-decimal-requires put-requires (λ c. search needs) returns)

@@ -23,20 +23,8 @@ loop-holds c =
     let a = c .args in
     (search needs, rw add-zero (appends-none (a .out .now) (a .at) (omega (arith, c .pre))))
 
-shared-slice-read-out : tie.Need-shared-slice-read-out Inv-loop μ-loop
-shared-slice-read-out c = search needs
-
-add-out : tie.Need-add-out Inv-loop μ-loop
-add-out c = omega (arith, c .before .before .loop .inv .1 .fits)
-
 slice-write-out : tie.Need-slice-write-out Inv-loop μ-loop
 slice-write-out c = omega (arith, c .before .before .loop .inv .1 .fits, appends-length (c .before .before .loop .inv .1), c .before .before .before .pre)
-
-add-i : tie.Need-add-i Inv-loop μ-loop
-add-i c = search needs
-
-loop-less : tie.Need-loop-less Inv-loop μ-loop
-loop-less c = search needs
 
 loop-again : tie.Need-loop-again Inv-loop μ-loop
 loop-again c =
@@ -47,9 +35,6 @@ loop-again c =
       appends-as (appends-more (l .i) (getD (a .text .now) (l .i) 0) (l .inv .1) (omega (arith, c .before .before .before .pre, appends-length (l .inv .1)))) _
           (sym (take-suc (a .text .now) (l .i) 0 h) ∙ ap (λ (m : ℕ). take m (a .text .now)) (sym (add-one (l .i)))),
     )
-
-add-result : tie.Need-add-result Inv-loop μ-loop
-add-result c = omega (arith, c .before .loop .inv .1 .fits)
 
 same-length : tie.Need-same-length Inv-loop μ-loop
 same-length c = appends-length (c .before .loop .inv .1)
@@ -64,16 +49,5 @@ returns c =
 pub put-text-spec : {M : Type 1} → statement M
 put-text-spec =
     tie.close
-    (tie.spec
-    Inv-loop
-    μ-loop
-    loop-holds
-    shared-slice-read-out
-    add-out
-    slice-write-out
-    add-i
-    loop-less
-    loop-again
-    add-result
-    same-length
-    returns)
+    (tie.spec Inv-loop μ-loop loop-holds (λ c. search needs) (λ c. omega (arith, c .before .before .loop .inv .1 .fits)) slice-write-out
+    (λ c. search needs) (λ c. search needs) loop-again (λ c. omega (arith, c .before .loop .inv .1 .fits)) same-length returns)

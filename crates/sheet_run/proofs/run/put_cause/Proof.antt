@@ -6,23 +6,10 @@ use borrow.Author.Needs.{needs}
 use Rattle.sheet_run.proofs.run.put_cause.Statement.{statement}
 use Rattle.sheet_run.proofs.run.put_cause.Tie as tie
 
-number-requires : tie.Need-number-requires
-number-requires c κs = search needs
-
-value-requires : tie.Need-value-requires
-value-requires c κs = search needs
-
-put-refusal-requires : tie.Need-put-refusal-requires
-put-refusal-requires c κs = search needs
-
-same-length : tie.Need-same-length
-same-length c = search needs
-
 returns : tie.Need-returns
 returns c =
     let p = c .before .before in
     appends-as (p .put-refusal .ensures) _ (ap₂ refusedLine (p .before .before .number .ensures) (p .before .value .ensures))
 
 pub put-cause-spec : {M : Type 1} → statement M
-put-cause-spec =
-    tie.close (tie.spec number-requires value-requires put-refusal-requires same-length returns)
+put-cause-spec = tie.close (tie.spec (λ c κs. search needs) (λ c κs. search needs) (λ c κs. search needs) (λ c. search needs) returns)

@@ -10,40 +10,16 @@ use Rattle.sheet_run.proofs.run.run.Tie as tie
 returns : tie.Need-returns
 returns c = ran-not (c .before .before .before .args .sheet .now) (c .before .before .before .args .out .now) (c .if1 .taken)
 
-read-requires : tie.Need-read-requires
-read-requires c κs = search needs
-
-enum-known-a : tie.Need-enum-known-a
-enum-known-a c = search needs
-
 run-sheet-requires : tie.Need-run-sheet-requires
 run-sheet-requires c κs =
     let R = c .before .before .before .before .read .ensures in
     let (h, e) = c .before .before .a .given in
     (c .before .before .before .before .before .if1 .left, R .rows (h .0) e .inside, R .words (h .0) e .inside)
 
-enum-known-a-2 : tie.Need-enum-known-a-2
-enum-known-a-2 c = search needs
-
-number-requires : tie.Need-number-requires
-number-requires c κs = search needs
-
-value-requires : tie.Need-value-requires
-value-requires c κs = search needs
-
-put-refusal-requires : tie.Need-put-refusal-requires
-put-refusal-requires c κs = search needs
-
-same-length : tie.Need-same-length
-same-length c = search needs
-
 returns-2 : tie.Need-returns-2
 returns-2 c =
     let s = c .before .before .before .before .before .before .before .before .before .before .before in
     ran (s .args .sheet .now) (s .args .out .now) (c .before .before .before .before .before .before .before .before .if1 .left) (sym (c .before .before .before .before .before .a .given .1) ∙ c .before .before .before .before .before .before .before .read .ensures .answer) (c .before .before .run-sheet .ensures)
-
-same-length-2 : tie.Need-same-length-2
-same-length-2 c = search needs
 
 returns-3 : tie.Need-returns-3
 returns-3 c =
@@ -56,16 +32,5 @@ returns-3 c =
 pub run-spec : {M : Type 1} → statement M
 run-spec =
     tie.close
-    (tie.spec
-    returns
-    read-requires
-    enum-known-a
-    run-sheet-requires
-    enum-known-a-2
-    number-requires
-    value-requires
-    put-refusal-requires
-    same-length
-    returns-2
-    same-length-2
-    returns-3)
+    (tie.spec returns (λ c κs. search needs) (λ c. search needs) run-sheet-requires (λ c. search needs) (λ c κs. search needs)
+    (λ c κs. search needs) (λ c κs. search needs) (λ c. search needs) returns-2 (λ c. search needs) returns-3)

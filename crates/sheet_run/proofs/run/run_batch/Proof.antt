@@ -12,35 +12,11 @@ use Rattle.sheet_run.proofs.run.run_batch.Tie as tie
 dmin-is : (t : tie.After-enum-told) → t .before .before .before .before .before .decode-measured .result .dmin ≡ dmin (t .before .before .before .before .before .before .before .before .before .before .before .before .args .rows .now)
 dmin-is t = rw (t .enum-told .given .1) at (t .before .before .before .before .before .decode-measured .ensures .1)
 
-slice-aggregate-decode-measured : tie.Need-slice-aggregate-decode-measured
-slice-aggregate-decode-measured c = search needs
-
-slice-aggregate-decode-measured-2 : tie.Need-slice-aggregate-decode-measured-2
-slice-aggregate-decode-measured-2 c = search needs
-
-slice-aggregate-decode-measured-3 : tie.Need-slice-aggregate-decode-measured-3
-slice-aggregate-decode-measured-3 c = search needs
-
-decode-measured-requires : tie.Need-decode-measured-requires
-decode-measured-requires c κs = search needs
-
-enum-known-a : tie.Need-enum-known-a
-enum-known-a c = search needs
-
-put-cause-requires : tie.Need-put-cause-requires
-put-cause-requires c κs = search needs
-
-same-length : tie.Need-same-length
-same-length c = search needs
-
 returns : tie.Need-returns
 returns c =
     let m = c .before .before .before .before .before .before .before .before .before .before .decode-measured in
     appends-as (c .before .before .put-cause .ensures) _
     (refused-output (m .ensures .0) _ (c .before .before .before .before .before .a .given .1))
-
-enum-told : tie.Need-enum-told
-enum-told c = search needs
 
 array-share-prefix-codewords : tie.Need-array-share-prefix-codewords
 array-share-prefix-codewords c =
@@ -78,9 +54,6 @@ put-batch-requires c κs =
       omega (arith, codewords-length D d, few-words D d, c .before .before .before .before .before .before .before .before .before .before .before .before .before .before .before .pre),
     )
 
-same-length-2 : tie.Need-same-length-2
-same-length-2 c = search needs
-
 returns-2 : tie.Need-returns-2
 returns-2 c =
     let t = c .before .before .before .before .before .before in
@@ -91,20 +64,6 @@ returns-2 c =
 pub run-batch-spec : {M : Type 1} → statement M
 run-batch-spec =
     tie.close
-    (tie.spec
-    slice-aggregate-decode-measured
-    slice-aggregate-decode-measured-2
-    slice-aggregate-decode-measured-3
-    decode-measured-requires
-    enum-known-a
-    put-cause-requires
-    same-length
-    returns
-    enum-told
-    array-share-prefix-codewords
-    slice-aggregate-put-batch
-    array-share-prefix-counts
-    slice-aggregate-put-batch-2
-    put-batch-requires
-    same-length-2
-    returns-2)
+    (tie.spec (λ c. search needs) (λ c. search needs) (λ c. search needs) (λ c κs. search needs) (λ c. search needs)
+    (λ c κs. search needs) (λ c. search needs) returns (λ c. search needs) array-share-prefix-codewords slice-aggregate-put-batch
+    array-share-prefix-counts slice-aggregate-put-batch-2 put-batch-requires (λ c. search needs) returns-2)

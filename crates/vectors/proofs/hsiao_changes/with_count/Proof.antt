@@ -10,37 +10,8 @@ Inv-loop «data» count n₀ check₀ n check = check ≤ 256
 abbrev μ-loop : tie.MeasureT-loop
 μ-loop «data» count n₀ check₀ n check = 256 - check
 
-loop-holds : tie.Need-loop-holds Inv-loop μ-loop
-loop-holds c = search needs
-
-has-count-requires : tie.Need-has-count-requires Inv-loop μ-loop
-has-count-requires c κs = search needs
-
-wrapping-add-u32-requires : tie.Need-wrapping-add-u32-requires Inv-loop μ-loop
-wrapping-add-u32-requires c κs = search needs
-
-add-check : tie.Need-add-check Inv-loop μ-loop
-add-check c = search needs
-
-loop-less : tie.Need-loop-less Inv-loop μ-loop
-loop-less c = search needs
-
-loop-again : tie.Need-loop-again Inv-loop μ-loop
-loop-again c = search needs
-
-returns : tie.Need-returns Inv-loop μ-loop
-returns c = search needs
-
 pub with-count-spec : {M : Type 1} → statement M
 with-count-spec =
     tie.close
-    (tie.spec
-    Inv-loop
-    μ-loop
-    loop-holds
-    has-count-requires
-    wrapping-add-u32-requires
-    add-check
-    loop-less
-    loop-again
-    returns)
+    (tie.spec Inv-loop μ-loop (λ c. search needs) (λ c κs. search needs) (λ c κs. search needs) (λ c. search needs) (λ c. search needs)
+    (λ c. search needs) (λ c. search needs))

@@ -9,18 +9,6 @@ use borrow.Author.Needs.{needs}
 use Rattle.weights.proofs.describe.describe.Statement.{statement}
 use Rattle.weights.proofs.describe.describe.Tie as tie
 
-code-of-requires : tie.Need-code-of-requires
-code-of-requires c κs = search needs
-
-enum-told : tie.Need-enum-told
-enum-told c = search needs
-
-enum-told-2 : tie.Need-enum-told-2
-enum-told-2 c = search needs
-
-refused-requires : tie.Need-refused-requires
-refused-requires c κs = search needs
-
 returns : tie.Need-returns
 returns c =
     let t = c .before in
@@ -58,11 +46,4 @@ returns-2 c =
 pub describe-spec : {M : Type 1} → statement M
 describe-spec =
     tie.close
-    (tie.spec
-    code-of-requires
-    enum-told
-    enum-told-2
-    refused-requires
-    returns
-    walk-all-requires
-    returns-2)
+    (tie.spec (λ c κs. search needs) (λ c. search needs) (λ c. search needs) (λ c κs. search needs) returns walk-all-requires returns-2)

@@ -16,30 +16,6 @@ Inv-loop block base weights₀ j₀ weights j = (j ≤ length weights₀) × (le
 abbrev μ-loop : tie.MeasureT-loop
 μ-loop block base weights₀ j₀ weights j = length weights₀ - j
 
-loop-holds : tie.Need-loop-holds Inv-loop μ-loop
-loop-holds c = search needs
-
-mul-distance : tie.Need-mul-distance Inv-loop μ-loop
-mul-distance c = search needs
-
-shared-slice-read-distance : tie.Need-shared-slice-read-distance Inv-loop μ-loop
-shared-slice-read-distance c = search needs
-
-distance-requires : tie.Need-distance-requires Inv-loop μ-loop
-distance-requires c κs = search needs
-
-mul-weights : tie.Need-mul-weights Inv-loop μ-loop
-mul-weights c = search needs
-
-slice-write-weights : tie.Need-slice-write-weights Inv-loop μ-loop
-slice-write-weights c = search needs
-
-add-j : tie.Need-add-j Inv-loop μ-loop
-add-j c = search needs
-
-loop-less : tie.Need-loop-less Inv-loop μ-loop
-loop-less c = search needs
-
 loop-again : tie.Need-loop-again Inv-loop μ-loop
 loop-again c =
     let l = c .before .before .before .loop in
@@ -55,9 +31,6 @@ loop-again c =
           ∙ over-set W (a .weights .now) (l .j) _ (omega (arith, s .pre)) h (c .distance .ensures ∙ sym (getD-map f (a .block .now) (l .j) (omega (arith, s .pre)))),
     )
 
-same-length : tie.Need-same-length Inv-loop μ-loop
-same-length c = search needs
-
 returns : tie.Need-returns Inv-loop μ-loop
 returns c =
     let l = c .before .loop in
@@ -69,17 +42,5 @@ returns c =
 pub block-weights-spec : {M : Type 1} → statement M
 block-weights-spec =
     tie.close
-    (tie.spec
-    Inv-loop
-    μ-loop
-    loop-holds
-    mul-distance
-    shared-slice-read-distance
-    distance-requires
-    mul-weights
-    slice-write-weights
-    add-j
-    loop-less
-    loop-again
-    same-length
-    returns)
+    (tie.spec Inv-loop μ-loop (λ c. search needs) (λ c. search needs) (λ c. search needs) (λ c κs. search needs) (λ c. search needs)
+    (λ c. search needs) (λ c. search needs) (λ c. search needs) loop-again (λ c. search needs) returns)

@@ -18,27 +18,6 @@ Inv-loop rows block₀ j₀ block j = (j ≤ length block₀) × (length block �
 abbrev μ-loop : tie.MeasureT-loop
 μ-loop rows block₀ j₀ block j = length block₀ - j
 
-loop-holds : tie.Need-loop-holds Inv-loop μ-loop
-loop-holds c = search needs
-
-cast-row-sum : tie.Need-cast-row-sum Inv-loop μ-loop
-cast-row-sum c = search needs
-
-row-sum-requires : tie.Need-row-sum-requires Inv-loop μ-loop
-row-sum-requires c κs = search needs
-
-mul-block : tie.Need-mul-block Inv-loop μ-loop
-mul-block c = search needs
-
-slice-write-block : tie.Need-slice-write-block Inv-loop μ-loop
-slice-write-block c = search needs
-
-add-j : tie.Need-add-j Inv-loop μ-loop
-add-j c = search needs
-
-loop-less : tie.Need-loop-less Inv-loop μ-loop
-loop-less c = search needs
-
 loop-again : tie.Need-loop-again Inv-loop μ-loop
 loop-again c =
     let l = c .before .before .loop in
@@ -53,9 +32,6 @@ loop-again c =
           (c .row-sum .ensures ∙ sym (getD-tabulate (encode (a .rows .now)) (length (a .block .now)) (l .j) h)),
     )
 
-same-length : tie.Need-same-length Inv-loop μ-loop
-same-length c = search needs
-
 returns : tie.Need-returns Inv-loop μ-loop
 returns c =
     let l = c .before .loop in
@@ -67,16 +43,5 @@ returns c =
 pub fill-block-spec : {M : Type 1} → statement M
 fill-block-spec =
     tie.close
-    (tie.spec
-    Inv-loop
-    μ-loop
-    loop-holds
-    cast-row-sum
-    row-sum-requires
-    mul-block
-    slice-write-block
-    add-j
-    loop-less
-    loop-again
-    same-length
-    returns)
+    (tie.spec Inv-loop μ-loop (λ c. search needs) (λ c. search needs) (λ c κs. search needs) (λ c. search needs) (λ c. search needs)
+    (λ c. search needs) (λ c. search needs) loop-again (λ c. search needs) returns)

@@ -11,26 +11,8 @@ use native.Mathlib.Omega.{arith}
 use Rattle.weights.proofs.walk.walk_all.Statement.{statement}
 use Rattle.weights.proofs.walk.walk_all.Tie as tie
 
-block-rows-requires : tie.Need-block-rows-requires
-block-rows-requires c κs = search needs
-
-shl-size : tie.Need-shl-size
-shl-size c = omega (arith, c .block-rows .ensures .1)
-
 slice-aggregate-walk-blocks : tie.Need-slice-aggregate-walk-blocks
 slice-aggregate-walk-blocks c = sym (length-take-le (c .before .block-rows .result) (c .before .before .before .args .rows .now) (c .before .block-rows .ensures .0))
-
-mul-walk-blocks : tie.Need-mul-walk-blocks
-mul-walk-blocks c = record { fits = omega (arith, c .before .block-rows .ensures .1) }
-
-sub-walk-blocks : tie.Need-sub-walk-blocks
-sub-walk-blocks c = c .before .block-rows .ensures .0
-
-part-walk-blocks-start : tie.Need-part-walk-blocks-start
-part-walk-blocks-start c = c .before .block-rows .ensures .0
-
-part-walk-blocks-end : tie.Need-part-walk-blocks-end
-part-walk-blocks-end c = search needs
 
 array-borrow-prefix-block : tie.Need-array-borrow-prefix-block
 array-borrow-prefix-block c = size-fits (c .before .before .block-rows .result) (c .before .before .block-rows .ensures .1)
@@ -64,17 +46,7 @@ returns c =
 pub walk-all-spec : {M : Type 1} → statement M
 walk-all-spec =
     tie.close
-    (tie.spec
-    block-rows-requires
-    shl-size
-    slice-aggregate-walk-blocks
-    mul-walk-blocks
-    sub-walk-blocks
-    part-walk-blocks-start
-    part-walk-blocks-end
-    array-borrow-prefix-block
-    slice-aggregate-walk-blocks-2
-    array-borrow-prefix-weights
-    slice-aggregate-walk-blocks-3
-    walk-blocks-requires
-    returns)
+    (tie.spec (λ c κs. search needs) (λ c. omega (arith, c .block-rows .ensures .1)) slice-aggregate-walk-blocks
+    (λ c. record { fits = omega (arith, c .before .block-rows .ensures .1) }) (λ c. c .before .block-rows .ensures .0)
+    (λ c. c .before .block-rows .ensures .0) (λ c. search needs) array-borrow-prefix-block slice-aggregate-walk-blocks-2
+    array-borrow-prefix-weights slice-aggregate-walk-blocks-3 walk-blocks-requires returns)

@@ -11,9 +11,6 @@ use native.Mathlib.Omega.{arith}
 use Rattle.weights.proofs.walk.walk_block.Statement.{statement}
 use Rattle.weights.proofs.walk.walk_block.Tie as tie
 
-block-weights-requires : tie.Need-block-weights-requires
-block-weights-requires c κs = search needs
-
 tally-requires : tie.Need-tally-requires
 tally-requires c κs =
     let b = c .before .before .before .before .before in
@@ -26,15 +23,6 @@ tally-requires c κs =
       s .pre .1 .0 .0,
       (rw e (weights-small (s .args .block .now) (s .args .base) words (s .fits .base .fits)), λ j. rw long (s .pre .1 .1 j)),
     )
-
-slice-aggregate-least-of : tie.Need-slice-aggregate-least-of
-slice-aggregate-least-of c = search needs
-
-least-of-requires : tie.Need-least-of-requires
-least-of-requires c κs = search needs
-
-first-of-requires : tie.Need-first-of-requires
-first-of-requires c κs = search needs
 
 mul-t20 : tie.Need-mul-t20
 mul-t20 c =
@@ -65,9 +53,6 @@ shared-slice-read-t22 c =
     fallen (s .args .block .now) (s .args .base) ws is old new (t .tally .ensures) (m .least-of .result) (f .first-of .result)
     (s .args .walk .least) (m .least-of .ensures) (s .pre .1 .0 .1) (f .before .before .if1 .taken) (f .first-of .ensures) .0
 
-same-length : tie.Need-same-length
-same-length c = search needs
-
 returns : tie.Need-returns
 returns c =
     let f = c .before in
@@ -91,9 +76,6 @@ returns c =
       },
       long,
     )
-
-same-length-2 : tie.Need-same-length-2
-same-length-2 c = search needs
 
 returns-2 : tie.Need-returns-2
 returns-2 c =
@@ -123,15 +105,5 @@ returns-2 c =
 pub walk-block-spec : {M : Type 1} → statement M
 walk-block-spec =
     tie.close
-    (tie.spec
-    block-weights-requires
-    tally-requires
-    slice-aggregate-least-of
-    least-of-requires
-    first-of-requires
-    mul-t20
-    shared-slice-read-t22
-    same-length
-    returns
-    same-length-2
-    returns-2)
+    (tie.spec (λ c κs. search needs) tally-requires (λ c. search needs) (λ c κs. search needs) (λ c κs. search needs) mul-t20
+    shared-slice-read-t22 (λ c. search needs) returns (λ c. search needs) returns-2)

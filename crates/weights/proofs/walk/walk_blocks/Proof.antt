@@ -23,24 +23,12 @@ Inv-loop front others block weights₀ end walk₀ h₀ weights walk h =
 abbrev μ-loop : tie.MeasureT-loop
 μ-loop front others block weights₀ end walk₀ h₀ weights walk h = end - h
 
-fill-block-requires : tie.Need-fill-block-requires Inv-loop μ-loop
-fill-block-requires c κs = search needs
-
-cast-end : tie.Need-cast-end Inv-loop μ-loop
-cast-end c = search needs
-
-shl-end : tie.Need-shl-end Inv-loop μ-loop
-shl-end c = search needs
-
 loop-holds : tie.Need-loop-holds Inv-loop μ-loop
 loop-holds c =
     let s = c .before .before .before .before .before .before .before .before in
     let front = s .args .front .now in
     let others = s .args .others .now in
     (search needs, shl-one (length others) 32 (omega (arith, s .pre .1)), refl, rw (zero-mul (2 ^ length front)) (walked-start (front ++ others)))
-
-row-sum-requires : tie.Need-row-sum-requires Inv-loop μ-loop
-row-sum-requires c κs = search needs
 
 walk-block-requires : tie.Need-walk-block-requires Inv-loop μ-loop
 walk-block-requires c κs =
@@ -56,12 +44,6 @@ walk-block-requires c κs =
     let fits : A .loop .h * 2 ^ length front + length (fb .fill-block .last .1 .0) < 2 ^ 32
     = rw (long ∙ s .pre .0 .0) (block-fits (length front) (length others) (A .loop .h) less (s .pre .1)) in
     (A .loop .inv .2 ∙ s .pre .0 .2 ∙ sym long, ((W .size, W .least), walked-room (front ++ others) _ (A .loop .walk) W _ fits))
-
-add-h : tie.Need-add-h Inv-loop μ-loop
-add-h c = search needs
-
-loop-less : tie.Need-loop-less Inv-loop μ-loop
-loop-less c = search needs
 
 loop-again : tie.Need-loop-again Inv-loop μ-loop
 loop-again c =
@@ -87,9 +69,6 @@ same-length c =
     let s = A .before .before .before .before .before .before .before .before .before in
     ap length (A .before .before .before .fill-block .ensures) ∙ length-tabulate (encode (s .args .front .now)) (length (s .args .block .now))
 
-same-length-2 : tie.Need-same-length-2 Inv-loop μ-loop
-same-length-2 c = c .before .loop .inv .2
-
 returns : tie.Need-returns Inv-loop μ-loop
 returns c =
     let A = c .before in
@@ -104,18 +83,5 @@ returns c =
 pub walk-blocks-spec : {M : Type 1} → statement M
 walk-blocks-spec =
     tie.close
-    (tie.spec
-    Inv-loop
-    μ-loop
-    fill-block-requires
-    cast-end
-    shl-end
-    loop-holds
-    row-sum-requires
-    walk-block-requires
-    add-h
-    loop-less
-    loop-again
-    same-length
-    same-length-2
-    returns)
+    (tie.spec Inv-loop μ-loop (λ c κs. search needs) (λ c. search needs) (λ c. search needs) loop-holds (λ c κs. search needs)
+    walk-block-requires (λ c. search needs) (λ c. search needs) loop-again same-length (λ c. c .before .loop .inv .2) returns)

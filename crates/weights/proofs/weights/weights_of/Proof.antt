@@ -6,15 +6,6 @@ use native.Mathlib.Omega.{arith}
 use Rattle.weights.proofs.weights.weights_of.Statement.{statement}
 use Rattle.weights.proofs.weights.weights_of.Tie as tie
 
-accept-requires : tie.Need-accept-requires
-accept-requires c κs = search needs
-
-enum-told : tie.Need-enum-told
-enum-told c = search needs
-
-enum-told-2 : tie.Need-enum-told-2
-enum-told-2 c = search needs
-
 returns : tie.Need-returns
 returns c =
     let r = c .before .before .accept in
@@ -36,4 +27,5 @@ returns-2 c =
 
 pub weights-of-spec : {M : Type 1} → statement M
 weights-of-spec =
-    tie.close (tie.spec accept-requires enum-told enum-told-2 returns walk-all-requires returns-2)
+    tie.close
+    (tie.spec (λ c κs. search needs) (λ c. search needs) (λ c. search needs) returns walk-all-requires returns-2)

@@ -9,9 +9,6 @@ returns : tie.Need-returns
 unfolding listAnswer
 returns c = simp (lt-leb _ _ (c .if1 .taken))
 
-first-outside-requires : tie.Need-first-outside-requires
-first-outside-requires c κs = search needs
-
 returns-2 : tie.Need-returns-2
 unfolding listAnswer
 returns-2 c =
@@ -31,4 +28,4 @@ returns-4 c =
     simp (le-leb _ _ (c .before .before .before .if1 .left), ← e, eq-eqb _ _ (c .before .if2 .left), le-leb _ _ (c .if3 .left))
 
 pub list-cause-spec : {M : Type 1} → statement M
-list-cause-spec = tie.close (tie.spec returns first-outside-requires returns-2 returns-3 returns-4)
+list-cause-spec = tie.close (tie.spec returns (λ c κs. search needs) returns-2 returns-3 returns-4)

@@ -4,17 +4,8 @@ use borrow.Author.Needs.{needs}
 use Rattle.words.proofs.shape.in_range.Statement.{statement}
 use Rattle.words.proofs.shape.in_range.Tie as tie
 
-returns : tie.Need-returns
-returns c = simp (lt-leb _ _ (c .if1 .taken))
-
-returns-2 : tie.Need-returns-2
-returns-2 c = simp (le-leb _ _ (c .before .if1 .left), lt-leb _ _ (c .if2 .taken))
-
 returns-3 : tie.Need-returns-3
 returns-3 c = simp (le-leb _ _ (c .before .before .if1 .left), le-leb _ _ (c .before .if2 .left), lt-leb _ _ (c .if3 .taken))
-
-cast-if4 : tie.Need-cast-if4
-cast-if4 c = search needs
 
 returns-4 : tie.Need-returns-4
 returns-4 c =
@@ -25,9 +16,6 @@ returns-4 c =
       lt-leb _ _ (c .if4 .taken),
     )
 
-add-if5 : tie.Need-add-if5
-add-if5 c = search needs
-
 returns-5 : tie.Need-returns-5
 returns-5 c =
     simp (
@@ -37,12 +25,6 @@ returns-5 c =
       le-leb _ _ (c .before .if4 .left),
       lt-leb _ _ (c .if5 .taken),
     )
-
-cast-result : tie.Need-cast-result
-cast-result c = search needs
-
-add-result : tie.Need-add-result
-add-result c = search needs
 
 returns-6 : tie.Need-returns-6
 returns-6 c =
@@ -57,14 +39,5 @@ returns-6 c =
 pub in-range-spec : {M : Type 1} → statement M
 in-range-spec =
     tie.close
-    (tie.spec
-    returns
-    returns-2
-    returns-3
-    cast-if4
-    returns-4
-    add-if5
-    returns-5
-    cast-result
-    add-result
-    returns-6)
+    (tie.spec (λ c. simp (lt-leb _ _ (c .if1 .taken))) (λ c. simp (le-leb _ _ (c .before .if1 .left), lt-leb _ _ (c .if2 .taken)))
+    returns-3 (λ c. search needs) returns-4 (λ c. search needs) returns-5 (λ c. search needs) (λ c. search needs) returns-6)

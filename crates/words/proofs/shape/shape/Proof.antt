@@ -6,9 +6,6 @@ use borrow.Author.Needs.{needs}
 use Rattle.words.proofs.shape.shape.Statement.{statement}
 use Rattle.words.proofs.shape.shape.Tie as tie
 
-in-range-requires : tie.Need-in-range-requires
-in-range-requires c κs = search needs
-
 returns : tie.Need-returns
 unfolding shapeAnswer
 returns c = simp (sym (c .before .in-range .ensures) ∙ not-true _ (c .if1 .taken))
@@ -16,9 +13,6 @@ returns c = simp (sym (c .before .in-range .ensures) ∙ not-true _ (c .if1 .tak
 returns-2 : tie.Need-returns-2
 unfolding shapeAnswer
 returns-2 c = simp (sym (c .before .before .in-range .ensures) ∙ not-false _ (c .before .if1 .left), ne-eqb _ _ (c .if2 .taken))
-
-first-outside-requires : tie.Need-first-outside-requires
-first-outside-requires c κs = search needs
 
 returns-3 : tie.Need-returns-3
 unfolding shapeAnswer
@@ -43,6 +37,4 @@ returns-4 c =
     )
 
 pub shape-spec : {M : Type 1} → statement M
-shape-spec =
-    tie.close
-    (tie.spec in-range-requires returns returns-2 first-outside-requires returns-3 returns-4)
+shape-spec = tie.close (tie.spec (λ c κs. search needs) returns returns-2 (λ c κs. search needs) returns-3 returns-4)

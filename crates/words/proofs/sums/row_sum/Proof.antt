@@ -19,21 +19,6 @@ abbrev μ-loop : tie.MeasureT-loop
 loop-holds : tie.Need-loop-holds Inv-loop μ-loop
 loop-holds c = (search needs, xor-zero-l (encode (c .before .args .rows .now) (c .before .args .message)))
 
-mul-selected : tie.Need-mul-selected Inv-loop μ-loop
-mul-selected c = search needs
-
-shared-slice-read-selected : tie.Need-shared-slice-read-selected Inv-loop μ-loop
-shared-slice-read-selected c = search needs
-
-selected-requires : tie.Need-selected-requires Inv-loop μ-loop
-selected-requires c κs = search needs
-
-add-i : tie.Need-add-i Inv-loop μ-loop
-add-i c = search needs
-
-loop-less : tie.Need-loop-less Inv-loop μ-loop
-loop-less c = search needs
-
 loop-again : tie.Need-loop-again Inv-loop μ-loop
 loop-again c =
     let i = c .before .before .before in
@@ -52,14 +37,5 @@ returns c =
 pub row-sum-spec : {M : Type 1} → statement M
 row-sum-spec =
     tie.close
-    (tie.spec
-    Inv-loop
-    μ-loop
-    loop-holds
-    mul-selected
-    shared-slice-read-selected
-    selected-requires
-    add-i
-    loop-less
-    loop-again
-    returns)
+    (tie.spec Inv-loop μ-loop loop-holds (λ c. search needs) (λ c. search needs) (λ c κs. search needs) (λ c. search needs)
+    (λ c. search needs) loop-again returns)

@@ -9,9 +9,6 @@ use Rattle.coding.proofs.MachineLaws.{fits-shift}
 use Rattle.words.proofs.word.fits.Statement.{statement}
 use Rattle.words.proofs.word.fits.Tie as tie
 
-shr-result : tie.Need-shr-result
-shr-result c = search needs
-
 returns : tie.Need-returns
 returns c = fits-shift (c .before .args .w) (c .before .args .n)
 
@@ -21,4 +18,4 @@ returns-2 c =
     sym (lt-ltb (a .w) (2 ^ a .n) (lt-of-lt-of-le (c .before .fits .w .fits) (pow-mono (c .if1 .left))))
 
 pub fits-spec : {M : Type 1} → statement M
-fits-spec = tie.close (tie.spec shr-result returns returns-2)
+fits-spec = tie.close (tie.spec (λ c. search needs) returns returns-2)

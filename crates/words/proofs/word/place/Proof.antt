@@ -7,9 +7,6 @@ use Rattle.coding.proofs.MachineLaws.{bit-beyond}
 use Rattle.words.proofs.word.place.Statement.{statement}
 use Rattle.words.proofs.word.place.Tie as tie
 
-shr-result : tie.Need-shr-result
-shr-result c = search needs
-
 returns : tie.Need-returns
 returns c = and-mask (c .before .args .w / 2 ^ c .before .args .i) 1
 
@@ -17,4 +14,4 @@ returns-2 : tie.Need-returns-2
 returns-2 c = sym (bit-beyond 32 (c .before .args .w) (c .before .args .i) (c .before .fits .w .fits) (c .if1 .left))
 
 pub place-spec : {M : Type 1} → statement M
-place-spec = tie.close (tie.spec shr-result returns returns-2)
+place-spec = tie.close (tie.spec (λ c. search needs) returns returns-2)

@@ -7,12 +7,6 @@ use Rattle.coding.proofs.MachineLaws.{masked-digit, sel-le}
 use Rattle.words.proofs.word.selected.Statement.{statement}
 use Rattle.words.proofs.word.selected.Tie as tie
 
-cast-result : tie.Need-cast-result
-cast-result c = record { fits = omega (arith, and-mask (c .args .m) 1) }
-
-sub-result : tie.Need-sub-result
-sub-result c = omega (arith, and-mask (c .args .m) 1)
-
 cast-result-2 : tie.Need-cast-result-2
 cast-result-2 c =
     let a = c .args in
@@ -22,4 +16,7 @@ returns : tie.Need-returns
 returns c = masked-digit (c .args .row) (c .args .m) (c .fits .row .fits)
 
 pub selected-spec : {M : Type 1} → statement M
-selected-spec = tie.close (tie.spec cast-result sub-result cast-result-2 returns)
+selected-spec =
+    tie.close
+    (tie.spec (λ c. record { fits = omega (arith, and-mask (c .args .m) 1) }) (λ c. omega (arith, and-mask (c .args .m) 1))
+    cast-result-2 returns)
