@@ -4,7 +4,7 @@ use mathlib.Core.Path.{_≡_, refl, sym, ap, ap₂, _∙_}
 use mathlib.Core.Logic.{_≢_}
 use mathlib.Core.List.{List, [], _∷_, _++_, map}
 use mathlib.Core.Option.{Option, none, some}
-use mathlib.Core.Bool.{Bool, true, false, not}
+use mathlib.Core.Bool.{Bool, true, false, not, cond, _&&_}
 use Prim.Native.Nat.{ℕ, zero, suc, _+_, _-_, _*_, _%_, _^_, _≤_, _<_, suc-le-suc}
 use native.Mathlib.Nat.{pow-suc, add-assoc, add-zero, one-mul, mod-eq-of-lt}
 use native.Mathlib.Numerals.{add-one}
@@ -16,7 +16,6 @@ use lib.Seq.{getD-set-same, getD-set-other, ext-getD}
 use lib.Pow.{pow-pos}
 use lib.Count.{ones-ones}
 use borrow.Author.Tests.{eq-eqb, ne-eqb, eqb-true}
-use Rattle.coding.specs.Lists.{pick, both}
 use Rattle.coding.specs.Word.{weight}
 use Rattle.coding.specs.Matrix.{Inside}
 use Rattle.coding.specs.Check.{frees}
@@ -41,7 +40,7 @@ All P (w ∷ ws) = P w × All P ws
 fill-kept : (syn : ℕ → ℕ) (L : List ℕ) (w s : ℕ) → getD L s 0 ≢ noLeader → getD (fill syn L w) s 0 ≡ getD L s 0
 fill-kept syn L w s ne = go (ℕ-discrete s (syn w)) (eqb (getD L (syn w) 0) (noLeader)) refl
   where
-    go : Dec (s ≡ syn w) → (b : Bool) → eqb (getD L (syn w) 0) (noLeader) ≡ b → getD (pick b (set L (syn w) w) L) s 0 ≡ getD L s 0
+    go : Dec (s ≡ syn w) → (b : Bool) → eqb (getD L (syn w) 0) (noLeader) ≡ b → getD (cond b (set L (syn w) w) L) s 0 ≡ getD L s 0
     go d false q = refl
     go (no k) true q = getD-set-other L (syn w) s w 0 k
     go (yes e) true q = absurd (ne (ap (λ (x : ℕ). getD L x 0) e ∙ eqb-true (getD L (syn w) 0) (noLeader) q))
@@ -55,7 +54,7 @@ fills-kept syn (w ∷ ws) L s ne =
 fill-length : (syn : ℕ → ℕ) (L : List ℕ) (w : ℕ) → length (fill syn L w) ≡ length L
 fill-length syn L w = go (eqb (getD L (syn w) 0) (noLeader))
   where
-    go : (b : Bool) → length (pick b (set L (syn w) w) L) ≡ length L
+    go : (b : Bool) → length (cond b (set L (syn w) w) L) ≡ length L
     go true = length-set L (syn w) w
     go false = refl
 
@@ -74,14 +73,14 @@ fills-first syn (w ∷ ws) L s (b, a) h z =
         → getD (fills syn (fill syn L w) ws) s 0 ≡ orNoLeader (pickFirst (having syn s w) w (firstIn (having syn s) ws))
     go (yes e) kept more =
         let at : getD (fill syn L w) s 0 ≡ w =
-        ap (λ (b : Bool). getD (pick b (set L (syn w) w) L) s 0) (eq-eqb (getD L (syn w) 0) (noLeader) (ap (λ (x : ℕ). getD L x 0) e ∙ z))
+        ap (λ (b : Bool). getD (cond b (set L (syn w) w) L) s 0) (eq-eqb (getD L (syn w) 0) (noLeader) (ap (λ (x : ℕ). getD L x 0) e ∙ z))
         ∙ ap (λ (x : ℕ). getD (set L x w) s 0) e ∙ getD-set-same L s w 0 h in
         kept (λ q. b (sym at ∙ q)) ∙ at
         ∙ ap (λ (b : Bool). orNoLeader (pickFirst b w (firstIn (having syn s) ws))) (sym (eq-eqb (syn w) s e))
     go (no k) kept more =
         more (other (eqb (getD L (syn w) 0) (noLeader)) ∙ z) ∙ ap (λ (b : Bool). orNoLeader (pickFirst b w (firstIn (having syn s) ws))) (sym (ne-eqb (syn w) s k))
       where
-        other : (b : Bool) → getD (pick b (set L (syn w) w) L) s 0 ≡ getD L s 0
+        other : (b : Bool) → getD (cond b (set L (syn w) w) L) s 0 ≡ getD L s 0
         other true = getD-set-other L (syn w) s w 0 (λ e. k (sym e))
         other false = refl
 
@@ -172,10 +171,10 @@ pub fills-one : (syn : ℕ → ℕ) (L : List ℕ) (m a : ℕ) → fill syn L a 
 fills-one syn L m a = ap (fill syn L) (sym (add-zero a))
 
 pub fill-blank : (syn : ℕ → ℕ) (L : List ℕ) (w : ℕ) → getD L (syn w) 0 ≡ noLeader → fill syn L w ≡ set L (syn w) w
-fill-blank syn L w e = ap (λ (b : Bool). pick b (set L (syn w) w) L) (eq-eqb (getD L (syn w) 0) (noLeader) e)
+fill-blank syn L w e = ap (λ (b : Bool). cond b (set L (syn w) w) L) (eq-eqb (getD L (syn w) 0) (noLeader) e)
 
 pub fill-held : (syn : ℕ → ℕ) (L : List ℕ) (w : ℕ) → getD L (syn w) 0 ≢ noLeader → fill syn L w ≡ L
-fill-held syn L w ne = ap (λ (b : Bool). pick b (set L (syn w) w) L) (ne-eqb (getD L (syn w) 0) (noLeader) ne)
+fill-held syn L w ne = ap (λ (b : Bool). cond b (set L (syn w) w) L) (ne-eqb (getD L (syn w) 0) (noLeader) ne)
 
 -- the highest of m places, below a prefix that leaves them room
 pub top-place : (m a : ℕ) → 0 < m → a + 2 ^ m ≤ 2 ^ 32 → (1 * 2 ^ (m - 1) % 2 ^ 32 ≡ 2 ^ (m - 1)) × (a + 2 ^ (m - 1) + 2 ^ (m - 1) ≤ 2 ^ 32)
@@ -200,29 +199,29 @@ fills-full syn ws L f =
 -- one less when a blank entry takes a word
 pub blank-set : (L : List ℕ) (s w : ℕ) → s < length L → getD L s 0 ≡ noLeader → w ≢ noLeader → blankCount (set L s w) + 1 ≡ blankCount L
 blank-set L s w h e ne =
-    let old : blankCount L ≡ 1 + count (λ i. both (eqb (getD L i 0) noLeader) (not (eqb i s))) (length L)
+    let old : blankCount L ≡ 1 + count (λ i. eqb (getD L i 0) noLeader && not (eqb i s)) (length L)
     = count-without (λ i. eqb (getD L i 0) noLeader) (length L) s h
-    ∙ ap (λ (b : Bool). pick b 1 0 + count (λ i. both (eqb (getD L i 0) noLeader) (not (eqb i s))) (length L)) (eq-eqb (getD L s 0) noLeader e) in
-    let new : blankCount (set L s w) ≡ 0 + count (λ i. both (eqb (getD (set L s w) i 0) noLeader) (not (eqb i s))) (length L)
+    ∙ ap (λ (b : Bool). cond b 1 0 + count (λ i. eqb (getD L i 0) noLeader && not (eqb i s)) (length L)) (eq-eqb (getD L s 0) noLeader e) in
+    let new : blankCount (set L s w) ≡ 0 + count (λ i. eqb (getD (set L s w) i 0) noLeader && not (eqb i s)) (length L)
     = ap (count (λ i. eqb (getD (set L s w) i 0) noLeader)) (length-set L s w)
     ∙ count-without (λ i. eqb (getD (set L s w) i 0) noLeader) (length L) s h
-    ∙ ap (λ (b : Bool). pick b 1 0 + count (λ i. both (eqb (getD (set L s w) i 0) noLeader) (not (eqb i s))) (length L))
+    ∙ ap (λ (b : Bool). cond b 1 0 + count (λ i. eqb (getD (set L s w) i 0) noLeader && not (eqb i s)) (length L))
     (ne-eqb (getD (set L s w) s 0) noLeader (λ q. ne (sym (getD-set-same L s w 0 h) ∙ q))) in
-    let same : count (λ i. both (eqb (getD (set L s w) i 0) noLeader) (not (eqb i s))) (length L)
-    ≡ count (λ i. both (eqb (getD L i 0) noLeader) (not (eqb i s))) (length L)
-    = count-same (λ i. both (eqb (getD (set L s w) i 0) noLeader) (not (eqb i s))) (λ i. both (eqb (getD L i 0) noLeader) (not (eqb i s))) (length L)
+    let same : count (λ i. eqb (getD (set L s w) i 0) noLeader && not (eqb i s)) (length L)
+    ≡ count (λ i. eqb (getD L i 0) noLeader && not (eqb i s)) (length L)
+    = count-same (λ i. eqb (getD (set L s w) i 0) noLeader && not (eqb i s)) (λ i. eqb (getD L i 0) noLeader && not (eqb i s)) (length L)
     (λ i l. others i (ℕ-discrete i s)) in
     omega (arith, old, new, same)
   where
-    never : (b : Bool) → both b false ≡ false
+    never : (b : Bool) → b && false ≡ false
     never true = refl
     never false = refl
 
-    others : (i : ℕ) → Dec (i ≡ s) → both (eqb (getD (set L s w) i 0) noLeader) (not (eqb i s)) ≡ both (eqb (getD L i 0) noLeader) (not (eqb i s))
+    others : (i : ℕ) → Dec (i ≡ s) → eqb (getD (set L s w) i 0) noLeader && not (eqb i s) ≡ eqb (getD L i 0) noLeader && not (eqb i s)
     others i (yes q) =
-        ap (λ (b : Bool). both (eqb (getD (set L s w) i 0) noLeader) (not b)) (eq-eqb i s q) ∙ never (eqb (getD (set L s w) i 0) noLeader)
-        ∙ sym (ap (λ (b : Bool). both (eqb (getD L i 0) noLeader) (not b)) (eq-eqb i s q) ∙ never (eqb (getD L i 0) noLeader))
-    others i (no k) = ap (λ (x : ℕ). both (eqb x noLeader) (not (eqb i s))) (getD-set-other L s i w 0 k)
+        ap (λ (b : Bool). eqb (getD (set L s w) i 0) noLeader && not b) (eq-eqb i s q) ∙ never (eqb (getD (set L s w) i 0) noLeader)
+        ∙ sym (ap (λ (b : Bool). eqb (getD L i 0) noLeader && not b) (eq-eqb i s q) ∙ never (eqb (getD L i 0) noLeader))
+    others i (no k) = ap (λ (x : ℕ). eqb x noLeader && not (eqb i s)) (getD-set-other L s i w 0 k)
 
 -- where none is, no entry is blank, and no word changes the list
 pub blank-none : (L : List ℕ) → blankCount L ≡ 0 → (s : ℕ) → s < length L → getD L s 0 ≢ noLeader
@@ -251,7 +250,7 @@ fills-snoc syn L xs x = fills-append syn L xs (x ∷ [])
 pub fills-same : (syn syn′ : ℕ → ℕ) (ws L : List ℕ) → All (λ w. syn w ≡ syn′ w) ws → fills syn L ws ≡ fills syn′ L ws
 fills-same syn syn′ [] L f = refl
 fills-same syn syn′ (w ∷ ws) L (e, f) =
-    ap (λ (s : ℕ). fills syn (pick (eqb (getD L s 0) noLeader) (set L s w) L) ws) e ∙ fills-same syn syn′ ws (fill syn′ L w) f
+    ap (λ (s : ℕ). fills syn (cond (eqb (getD L s 0) noLeader) (set L s w) L) ws) e ∙ fills-same syn syn′ ws (fill syn′ L w) f
 
 pub order-below : (n t : ℕ) → All (λ w. w < 2 ^ n) (order n t)
 order-below n zero = tt

@@ -1,29 +1,28 @@
 -- One computed test of a list of columns, and the rule that it stands for. Assumes nothing.
 use mathlib.Core.Path.{_≡_, refl, sym, ap, _∙_}
 use mathlib.Core.Logic.{_≢_}
-use mathlib.Core.Bool.{Bool, true, not}
+use mathlib.Core.Bool.{Bool, true, not, _&&_}
 use mathlib.Core.List.{List, [], _∷_}
 use Prim.Native.Nat.{ℕ, zero, suc, _%_, _^_, _<_}
 use native.Mathlib.Omega.{arith}
 use lib.Dec.{T, T-not, eqb, ltb, eqb→eq, ltb→lt, eqb-refl}
 use lib.Count.{onesIn}
 use lib.ListN.{length, getD}
-use Rattle.coding.specs.Lists.{both}
 use Rattle.coding.specs.Word.{weight}
 use Rattle.coding.specs.Columns.{OddColumns}
 use Rattle.coding.proofs.WeightLaws.{weight-in}
-use Rattle.coding.proofs.TestLaws.{both-left, both-right}
+use Rattle.coding.proofs.TestLaws.{and-left, and-right}
 
 -- no entry is x
 abbrev absent : ℕ → List ℕ → Bool
 absent x [] = true
-absent x (y ∷ ys) = both (not (eqb x y)) (absent x ys)
+absent x (y ∷ ys) = not (eqb x y) && absent x ys
 
 -- each column is within c places, of odd weight, no single bit, and none of the later ones
 unfoldable pub oddColumns : ℕ → List ℕ → Bool
 oddColumns c [] = true
 oddColumns c (x ∷ xs) =
-    both (ltb x (2 ^ c)) (both (eqb (onesIn c x % 2) 1) (both (not (eqb (onesIn c x) 1)) (both (absent x xs) (oddColumns c xs))))
+    ltb x (2 ^ c) && (eqb (onesIn c x % 2) 1 && (not (eqb (onesIn c x) 1) && (absent x xs && oddColumns c xs)))
 
 record Tested (c x : ℕ) (xs : List ℕ) : Type 0 where
   inside : x < 2 ^ c
@@ -38,26 +37,26 @@ tested c x xs t =
     let p₁ = ltb x (2 ^ c) in
     let p₂ = eqb (onesIn c x % 2) 1 in
     let p₃ = not (eqb (onesIn c x) 1) in
-    let r₃ = both (absent x xs) (oddColumns c xs) in
-    let r₂ = both p₃ r₃ in
-    let r₁ = both p₂ r₂ in
-    let t₁ : T r₁ = both-right p₁ r₁ t in
-    let t₂ : T r₂ = both-right p₂ r₂ t₁ in
-    let t₃ : T r₃ = both-right p₃ r₃ t₂ in
-    let inside : x < 2 ^ c = ltb→lt x (2 ^ c) (both-left p₁ r₁ t) in
+    let r₃ = absent x xs && oddColumns c xs in
+    let r₂ = p₃ && r₃ in
+    let r₁ = p₂ && r₂ in
+    let t₁ : T r₁ = and-right p₁ r₁ t in
+    let t₂ : T r₂ = and-right p₂ r₂ t₁ in
+    let t₃ : T r₃ = and-right p₃ r₃ t₂ in
+    let inside : x < 2 ^ c = ltb→lt x (2 ^ c) (and-left p₁ r₁ t) in
     let e : onesIn c x ≡ weight x = weight-in c x inside in
     record {
       inside = inside;
-      odd = ap (λ (y : ℕ). y % 2) (sym e) ∙ eqb→eq (onesIn c x % 2) 1 (both-left p₂ r₂ t₁);
-      no-unit = λ z. T-not (eqb (onesIn c x) 1) (both-left p₃ r₃ t₂) (rw (e ∙ z) (eqb-refl 1));
-      new = both-left (absent x xs) (oddColumns c xs) t₃;
-      later = both-right (absent x xs) (oddColumns c xs) t₃;
+      odd = ap (λ (y : ℕ). y % 2) (sym e) ∙ eqb→eq (onesIn c x % 2) 1 (and-left p₂ r₂ t₁);
+      no-unit = λ z. T-not (eqb (onesIn c x) 1) (and-left p₃ r₃ t₂) (rw (e ∙ z) (eqb-refl 1));
+      new = and-left (absent x xs) (oddColumns c xs) t₃;
+      later = and-right (absent x xs) (oddColumns c xs) t₃;
     }
 
 absent-at : (x : ℕ) (ys : List ℕ) → T (absent x ys) → (j : ℕ) → j < length ys → x ≢ getD ys j 0
 absent-at x [] t j h e = absurd (omega arith)
-absent-at x (y ∷ ys) t zero h e = T-not (eqb x y) (both-left (not (eqb x y)) (absent x ys) t) (rw e (eqb-refl y))
-absent-at x (y ∷ ys) t (suc j) h e = absent-at x ys (both-right (not (eqb x y)) (absent x ys) t) j (omega arith) e
+absent-at x (y ∷ ys) t zero h e = T-not (eqb x y) (and-left (not (eqb x y)) (absent x ys) t) (rw e (eqb-refl y))
+absent-at x (y ∷ ys) t (suc j) h e = absent-at x ys (and-right (not (eqb x y)) (absent x ys) t) j (omega arith) e
 
 module _ (c : ℕ) where
   at : (P : ℕ → Type 0) → ((x : ℕ) (xs : List ℕ) → Tested c x xs → P x) → (cols : List ℕ) → T (oddColumns c cols)

@@ -2,7 +2,7 @@
 -- add up to the number of arguments. Assumes nothing.
 use mathlib.Core.Path.{_≡_, refl, sym, ap, ap₂, _∙_}
 use mathlib.Core.List.{List, [], _∷_, _++_}
-use mathlib.Core.Bool.{Bool, true, false, not}
+use mathlib.Core.Bool.{Bool, true, false, not, cond, _&&_}
 use Prim.Native.Nat.{ℕ, zero, suc, _+_, _≤_, _<_, suc-le-suc}
 use native.Mathlib.Nat.{le-of-suc-le-suc, add-zero, add-suc, le-refl, zero-lt-suc}
 use native.Mathlib.Numerals.{add-one}
@@ -10,7 +10,7 @@ use native.Mathlib.Omega.{arith}
 use lib.Dec.{eqb, eqb·zero-suc, eqb·suc-zero, eqb·suc-suc}
 use lib.ListN.{length, getD, take}
 use borrow.Author.Tests.{eqb-true, eqb-false, ne-eqb}
-use Rattle.coding.specs.Lists.{pick, both, tabulate, total}
+use Rattle.coding.specs.Lists.{tabulate, total}
 use Rattle.coding.specs.Weight.{count}
 use Rattle.coding.proofs.SearchLaws.{true-false}
 
@@ -46,14 +46,14 @@ tabulate-same f g (suc m) h =
     ap₂ _∷_ (h zero (zero-lt-suc m)) (tabulate-same (λ i. f (suc i)) (λ i. g (suc i)) m (λ i l. h (suc i) (suc-le-suc l)))
 
 -- one more number adds one where it passes
-pub count-step : (p : ℕ → Bool) (i : ℕ) → count p (i + 1) ≡ count p i + pick (p i) 1 0
+pub count-step : (p : ℕ → Bool) (i : ℕ) → count p (i + 1) ≡ count p i + cond (p i) 1 0
 count-step p i = rw add-one (omega arith)
 
 -- tests that agree below m count alike
 pub count-same : (p q : ℕ → Bool) (m : ℕ) → ((i : ℕ) → i < m → p i ≡ q i) → count p m ≡ count q m
 count-same p q zero h = refl
 count-same p q (suc m) h =
-    ap₂ (λ (b : Bool) (c : ℕ). pick b 1 0 + c) (h m (le-refl (suc m))) (count-same p q m (λ i l. h i (omega arith)))
+    ap₂ (λ (b : Bool) (c : ℕ). cond b 1 0 + c) (h m (le-refl (suc m))) (count-same p q m (λ i l. h i (omega arith)))
 
 -- a count below a sum is the count below the first number and that of the numbers from there on
 pub count-add : (p : ℕ → Bool) (a b : ℕ) → count p (a + b) ≡ count p a + count (λ i. p (a + i)) b
@@ -65,52 +65,52 @@ pub count-le : (p : ℕ → Bool) (m : ℕ) → count p m ≤ m
 count-le p zero = le-refl 0
 count-le p (suc m) = go (p m) (count-le p m)
   where
-    go : (b : Bool) → count p m ≤ m → pick b 1 0 + count p m ≤ suc m
+    go : (b : Bool) → count p m ≤ m → cond b 1 0 + count p m ≤ suc m
     go true l = omega arith
     go false l = omega arith
 
 -- where none passes the count is 0
 pub count-none : (p : ℕ → Bool) (m : ℕ) → ((i : ℕ) → i < m → p i ≡ false) → count p m ≡ 0
 count-none p zero h = refl
-count-none p (suc m) h = ap₂ (λ (b : Bool) (c : ℕ). pick b 1 0 + c) (h m (le-refl (suc m))) (count-none p m (λ i l. h i (omega arith)))
+count-none p (suc m) h = ap₂ (λ (b : Bool) (c : ℕ). cond b 1 0 + c) (h m (le-refl (suc m))) (count-none p m (λ i l. h i (omega arith)))
 
 -- a positive count has a number that passes
 pub count-found : (p : ℕ → Bool) (m : ℕ) → 1 ≤ count p m → (i : ℕ) × (i < m) × (p i ≡ true)
 count-found p zero h = absurd (omega arith)
 count-found p (suc m) h = go (p m) refl (count-found p m) h
   where
-    go : (b : Bool) → p m ≡ b → (1 ≤ count p m → (i : ℕ) × (i < m) × (p i ≡ true)) → 1 ≤ pick b 1 0 + count p m
+    go : (b : Bool) → p m ≡ b → (1 ≤ count p m → (i : ℕ) × (i < m) × (p i ≡ true)) → 1 ≤ cond b 1 0 + count p m
         → (i : ℕ) × (i < suc m) × (p i ≡ true)
     go true e f l = (m, le-refl (suc m), e)
     go false e f l = let (i, k, t) = f (omega arith) in (i, omega arith, t)
 
 -- without the number w the count is less by one where w passes
-pub count-without : (p : ℕ → Bool) (m w : ℕ) → w < m → count p m ≡ pick (p w) 1 0 + count (λ i. both (p i) (not (eqb i w))) m
+pub count-without : (p : ℕ → Bool) (m w : ℕ) → w < m → count p m ≡ cond (p w) 1 0 + count (λ i. p i && not (eqb i w)) m
 count-without p zero w h = absurd (omega arith)
 count-without p (suc m) w h = go (eqb m w) refl (count-without p m w)
   where
-    both-true : (b : Bool) → b ≡ both b true
-    both-true true = refl
-    both-true false = refl
+    and-true : (b : Bool) → b ≡ b && true
+    and-true true = refl
+    and-true false = refl
 
-    both-false : (b : Bool) → both b false ≡ false
-    both-false true = refl
-    both-false false = refl
+    and-false : (b : Bool) → b && false ≡ false
+    and-false true = refl
+    and-false false = refl
 
-    kept : (i : ℕ) → (i ≡ w → ⊥) → p i ≡ both (p i) (not (eqb i w))
-    kept i ne = rw (ne-eqb i w ne) (both-true (p i))
+    kept : (i : ℕ) → (i ≡ w → ⊥) → p i ≡ p i && not (eqb i w)
+    kept i ne = rw (ne-eqb i w ne) (and-true (p i))
 
-    go : (b : Bool) → eqb m w ≡ b → (w < m → count p m ≡ pick (p w) 1 0 + count (λ i. both (p i) (not (eqb i w))) m)
-        → pick (p m) 1 0 + count p m
-        ≡ pick (p w) 1 0 + (pick (both (p m) (not b)) 1 0 + count (λ i. both (p i) (not (eqb i w))) m)
+    go : (b : Bool) → eqb m w ≡ b → (w < m → count p m ≡ cond (p w) 1 0 + count (λ i. p i && not (eqb i w)) m)
+        → cond (p m) 1 0 + count p m
+        ≡ cond (p w) 1 0 + (cond (p m && not b) 1 0 + count (λ i. p i && not (eqb i w)) m)
     go true e f =
         let s : m ≡ w = eqb-true m w e in
-        let c : count p m ≡ count (λ i. both (p i) (not (eqb i w))) m =
-        count-same p (λ i. both (p i) (not (eqb i w))) m (λ i l. kept i (λ k. absurd (omega arith))) in
-        rw (both-false, ap p s) (omega (arith, c))
+        let c : count p m ≡ count (λ i. p i && not (eqb i w)) m =
+        count-same p (λ i. p i && not (eqb i w)) m (λ i l. kept i (λ k. absurd (omega arith))) in
+        rw (and-false, ap p s) (omega (arith, c))
     go false e f =
         let ne : m ≡ w → ⊥ = eqb-false m w e in
-        rw (← both-true (p m)) (omega (arith, f (omega arith)))
+        rw (← and-true (p m)) (omega (arith, f (omega arith)))
 
 -- where a number passes the count is not 0
 pub count-some : (p : ℕ → Bool) (m i : ℕ) → i < m → p i ≡ true → 1 ≤ count p m
@@ -119,41 +119,41 @@ count-some p m i h e = omega (arith, rw e at (count-without p m i h))
 -- a one-to-one map carries counts: q tells the values of f, and p counts as often on them as p after f on the arguments
 pub count-image : (f : ℕ → ℕ) (M N : ℕ) → ((u : ℕ) → u < M → f u < N) → ((u v : ℕ) → u < M → v < M → f u ≡ f v → u ≡ v)
     → (q : ℕ → Bool) → ((w : ℕ) → w < N → q w ≡ true → (u : ℕ) × (u < M) × (f u ≡ w)) → ((u : ℕ) → u < M → q (f u) ≡ true)
-    → (p : ℕ → Bool) → count (λ w. both (q w) (p w)) N ≡ count (λ u. p (f u)) M
+    → (p : ℕ → Bool) → count (λ w. q w && p w) N ≡ count (λ u. p (f u)) M
 count-image f zero N into one q has is p =
-    count-none (λ w. both (q w) (p w)) N (λ w l. none (q w) (p w) (λ e. absurd (omega (arith, has w l e .1))))
+    count-none (λ w. q w && p w) N (λ w l. none (q w) (p w) (λ e. absurd (omega (arith, has w l e .1))))
   where
-    none : (b c : Bool) → (b ≡ true → ⊥) → both b c ≡ false
+    none : (b c : Bool) → (b ≡ true → ⊥) → b && c ≡ false
     none true c f = absurd (f refl)
     none false c f = refl
 count-image f (suc M) N into one q has is p =
-    count-without (λ w. both (q w) (p w)) N (f M) (into M (le-refl (suc M)))
-    ∙ ap₂ (λ (b : Bool) (c : ℕ). pick (both b (p (f M))) 1 0 + c) (is M (le-refl (suc M)))
-    (count-same (λ w. both (both (q w) (p w)) (not (eqb w (f M)))) (λ w. both (both (q w) (not (eqb w (f M)))) (p w)) N
+    count-without (λ w. q w && p w) N (f M) (into M (le-refl (suc M)))
+    ∙ ap₂ (λ (b : Bool) (c : ℕ). cond (b && p (f M)) 1 0 + c) (is M (le-refl (suc M)))
+    (count-same (λ w. (q w && p w) && not (eqb w (f M))) (λ w. (q w && not (eqb w (f M))) && p w) N
     (λ w l. swap (q w) (p w) (not (eqb w (f M))))
     ∙ count-image f M N (λ u l. into u (omega arith)) (λ u v k l. one u v (omega arith) (omega arith))
-    (λ w. both (q w) (not (eqb w (f M)))) has′ is′ p)
+    (λ w. q w && not (eqb w (f M))) has′ is′ p)
   where
-    swap : (a b c : Bool) → both (both a b) c ≡ both (both a c) b
+    swap : (a b c : Bool) → (a && b) && c ≡ (a && c) && b
     swap true true true = refl
     swap true true false = refl
     swap true false true = refl
     swap true false false = refl
     swap false b c = refl
 
-    parts : (a b : Bool) → both a (not b) ≡ true → (a ≡ true) × (b ≡ false)
+    parts : (a b : Bool) → a && not b ≡ true → (a ≡ true) × (b ≡ false)
     parts true true e = absurd (true-false refl (sym e))
     parts true false e = (refl, refl)
     parts false b e = absurd (true-false refl (sym e))
 
-    has′ : (w : ℕ) → w < N → both (q w) (not (eqb w (f M))) ≡ true → (u : ℕ) × (u < M) × (f u ≡ w)
+    has′ : (w : ℕ) → w < N → q w && not (eqb w (f M)) ≡ true → (u : ℕ) × (u < M) × (f u ≡ w)
     has′ w l e =
         let (t, k) = parts (q w) (eqb w (f M)) e in
         let (u, h, s) = has w l t in
         let ne : u ≡ M → ⊥ = λ z. eqb-false w (f M) k (sym s ∙ ap f z) in
         (u, omega arith, s)
 
-    is′ : (u : ℕ) → u < M → both (q (f u)) (not (eqb (f u) (f M))) ≡ true
+    is′ : (u : ℕ) → u < M → q (f u) && not (eqb (f u) (f M)) ≡ true
     is′ u l =
         let ne : f u ≡ f M → ⊥ = λ z. absurd (omega (arith, one u M (omega arith) (le-refl (suc M)) z)) in
         rw (is u (omega arith), ne-eqb (f u) (f M) ne)
@@ -171,7 +171,7 @@ total-zero zero = refl
 total-zero (suc m) = omega (arith, total-zero m)
 
 -- one value is met once
-total-one : (m a : ℕ) → a < m → total (tabulate (λ j. pick (eqb a j) 1 0) m) ≡ 1
+total-one : (m a : ℕ) → a < m → total (tabulate (λ j. cond (eqb a j) 1 0) m) ≡ 1
 total-one zero a h = absurd (omega arith)
 total-one (suc m) zero h = simp eqb·zero-suc (omega (arith, total-zero m))
 total-one (suc m) (suc a) h = simp (eqb·suc-zero, eqb·suc-suc) (omega (arith, total-one m a (le-of-suc-le-suc h)))
@@ -180,11 +180,11 @@ total-one (suc m) (suc a) h = simp (eqb·suc-zero, eqb·suc-suc) (omega (arith, 
 pub count-total : (f : ℕ → ℕ) (n M : ℕ) → ((u : ℕ) → u < M → f u < n) → total (tabulate (λ j. count (λ u. eqb (f u) j) M) n) ≡ M
 count-total f n zero h = total-zero n
 count-total f n (suc M) h =
-    total-add (λ j. pick (eqb (f M) j) 1 0) (λ j. count (λ u. eqb (f u) j) M) n
+    total-add (λ j. cond (eqb (f M) j) 1 0) (λ j. count (λ u. eqb (f u) j) M) n
     ∙ ap₂ _+_ (total-one n (f M) (h M (le-refl (suc M)))) (count-total f n M (λ u l. h u (omega arith)))
     ∙ omega arith
 
 -- where every number passes, all are counted
 pub count-all : (p : ℕ → Bool) (m : ℕ) → ((i : ℕ) → i < m → p i ≡ true) → count p m ≡ m
 count-all p zero f = refl
-count-all p (suc m) f = ap₂ (λ (b : Bool) (x : ℕ). pick b 1 0 + x) (f m (le-refl (suc m))) (count-all p m (λ i h. f i (omega arith))) ∙ omega arith
+count-all p (suc m) f = ap₂ (λ (b : Bool) (x : ℕ). cond b 1 0 + x) (f m (le-refl (suc m))) (count-all p m (λ i h. f i (omega arith))) ∙ omega arith

@@ -11,7 +11,7 @@ use native.Mathlib.Omega.{arith}
 use lib.ListN.{length, getD, take}
 use lib.Seq.{take-suc, take-length}
 use lib.Count.{trailingZeros}
-use Rattle.coding.specs.Lists.{blank}
+use Rattle.coding.specs.Lists.{zeros}
 use Rattle.coding.specs.Word.{bit}
 use Rattle.coding.specs.Matrix.{Inside, Independent, Depends}
 use Rattle.coding.specs.Reduced.{rest, put, addTo, reduceFrom, reduce, freesFrom}
@@ -26,7 +26,7 @@ reduce-append n B (x ∷ rs) r = reduce-append n (addTo n B (rest B x)) rs r
 
 pub reduce-take : (n : ℕ) (rs : List ℕ) (i : ℕ) → i < length rs
     → reduce n (take (suc i) rs) ≡ addTo n (reduce n (take i rs)) (rest (reduce n (take i rs)) (getD rs i 0))
-reduce-take n rs i h = ap (reduce n) (take-suc rs i 0 h) ∙ reduce-append n (blank n) (take i rs) (getD rs i 0)
+reduce-take n rs i h = ap (reduce n) (take-suc rs i 0 h) ∙ reduce-append n (zeros n) (take i rs) (getD rs i 0)
 
 -- ---- the number of free places
 
@@ -56,9 +56,9 @@ less-freesFrom i j (suc x ∷ A) (zero ∷ B) (suc q) l h a b f = absurd (suc-ne
 less-freesFrom i j (suc x ∷ A) (suc y ∷ B) (suc q) l h a b f =
     less-freesFrom (suc i) (suc j) A B q (suc-inj l) (omega arith) a b (λ p k. f (suc p) (λ e. k (suc-inj e)))
 
-blank-freesFrom : (i n : ℕ) → length (freesFrom i (blank n)) ≡ n
-blank-freesFrom i zero = refl
-blank-freesFrom i (suc n) = ap suc (blank-freesFrom (suc i) n)
+zeros-frees : (i n : ℕ) → length (freesFrom i (zeros n)) ≡ n
+zeros-frees i zero = refl
+zeros-frees i (suc n) = ap suc (zeros-frees (suc i) n)
 
 pub added-size : (n : ℕ) (B : List ℕ) → ByPlace n B → (r : ℕ) → r < 2 ^ n → rest B r ≢ 0
     → suc (length (freesFrom 0 (addTo n B (rest B r)))) ≡ length (freesFrom 0 B)
@@ -77,7 +77,7 @@ added-size n B R r h ne = go (rest B r) refl
 
 module _ (n : ℕ) (rs : List ℕ) (fits : Inside n rs) (ind : Independent rs) where
   steps : (i : ℕ) → i ≤ length rs → i + length (freesFrom 0 (reduce n (take i rs))) ≡ n
-  steps zero h = omega (arith, blank-freesFrom 0 n)
+  steps zero h = omega (arith, zeros-frees 0 n)
   steps (suc i) h =
       let B = reduce n (take i rs) in
       let R : ByPlace n (reduce n (take i rs)) = whole n (take i rs) (inside-take n rs fits i) .reduced in

@@ -3,13 +3,12 @@
 use mathlib.Core.Path.{_≡_, refl, sym, ap, _∙_}
 use mathlib.Core.Logic.{⊎-elim}
 use mathlib.Core.Option.{Option, none, some}
-use mathlib.Core.Bool.{Bool, true, false}
+use mathlib.Core.Bool.{Bool, true, false, cond}
 use Prim.Native.Nat.{ℕ, zero, suc, _^_, _≤_, _<_}
 use native.Mathlib.Nat.{le-refl, eq-or-lt-of-le, le-of-suc-le-suc, le-antisymm}
 use native.Mathlib.Omega.{arith}
 use lib.Dec.{T, ltb, ltb→lt, nltb→le, eqb→eq, eqb-refl}
 use lib.Bits.{xor-lt, xor-self, xor-zero-r}
-use Rattle.coding.specs.Lists.{pick}
 use Rattle.coding.specs.Word.{_⊕_, weight, distance}
 use Rattle.coding.specs.Leader.{merge, lightestBelow, having}
 use Rattle.coding.proofs.WordLaws.{xor-cancel}
@@ -48,7 +47,7 @@ found p (suc m) = go (p m) refl (lightestBelow p m) (found p m)
     }
     go true e (some b) f = choose (ltb (weight m) (weight b)) refl
       where
-        choose : (c : Bool) → ltb (weight m) (weight b) ≡ c → IsLightest p (suc m) (pick c m b)
+        choose : (c : Bool) → ltb (weight m) (weight b) ≡ c → IsLightest p (suc m) (cond c m b)
         choose true q = record {
           passes = rw e tt;
           below = le-refl (suc m);

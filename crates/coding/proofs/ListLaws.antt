@@ -8,7 +8,7 @@ use native.Mathlib.Numerals.{add-one}
 use native.Mathlib.Omega.{arith}
 use lib.ListN.{length, getD, take, drop, set, length-append, length-set, length-drop, length-replicate, take-append-drop, List·getD-eq-default}
 use lib.Seq.{length-take-le, take-length, take-nil, drop-nil, take-suc-set, drop-set-lt, drop-cons}
-use Rattle.coding.specs.Lists.{blank, padded}
+use Rattle.coding.specs.Lists.{zeros, padded}
 
 -- an entry of a mapped list
 pub getD-map : (f : ℕ → ℕ) (l : List ℕ) (i : ℕ) → i < length l → getD (map f l) i 0 ≡ f (getD l i 0)
@@ -65,12 +65,12 @@ suc-less k = omega arith
 
 pub record Packed (size : ℕ) (out : List ℕ) (j : ℕ) (left all : List ℕ) : Type 0 where
   pub whole : take j out ++ left ≡ all
-  pub zeros : drop j out ≡ blank (size - j)
+  pub rest : drop j out ≡ zeros (size - j)
   pub long : length out ≡ size
   pub count : j + length left ≡ length all
 
-pub packed-start : (size : ℕ) (all : List ℕ) → Packed size (blank size) 0 all all
-packed-start size all = record { whole = refl; zeros = ap blank (sym (sub-zero size)); long = length-replicate size 0; count = zero-add (length all) }
+pub packed-start : (size : ℕ) (all : List ℕ) → Packed size (zeros size) 0 all all
+packed-start size all = record { whole = refl; rest = ap zeros (sym (sub-zero size)); long = length-replicate size 0; count = zero-add (length all) }
 
 module _ (size : ℕ) (out : List ℕ) (j : ℕ) where
   pub packed-room : (v : ℕ) (left all : List ℕ) → Packed size out j (v ∷ left) all → length all ≤ size → j < size
@@ -79,28 +79,28 @@ module _ (size : ℕ) (out : List ℕ) (j : ℕ) where
   pub packed-push : (v : ℕ) (left all : List ℕ) → Packed size out j (v ∷ left) all → length all ≤ size → Packed size (set out j v) (j + 1) left all
   packed-push v left all P h =
       let room : j < length out = omega (arith, P .count, P .long) in
-      let more : drop (suc j) out ≡ blank (size - suc j) = go room in
+      let more : drop (suc j) out ≡ zeros (size - suc j) = go room in
       record {
         whole = rw (add-one, take-suc-set out j v room, append-assoc) (P .whole);
-        zeros = rw (add-one, drop-set-lt (suc j) out j v (le-refl (suc j))) more;
+        rest = rw (add-one, drop-set-lt (suc j) out j v (le-refl (suc j))) more;
         long = length-set out j v ∙ P .long;
         count = omega (arith, P .count);
       }
     where
-      drop-blank : (k : ℕ) → drop 1 (blank k) ≡ blank (k - 1)
-      drop-blank zero = refl
-      drop-blank (suc k) = ap blank (suc-less k)
+      zeros-drop : (k : ℕ) → drop 1 (zeros k) ≡ zeros (k - 1)
+      zeros-drop zero = refl
+      zeros-drop (suc k) = ap zeros (suc-less k)
 
-      tail : (l : List ℕ) (x k : ℕ) → x ∷ l ≡ blank k → l ≡ blank (k - 1)
-      tail l x k e = ap (drop 1) e ∙ drop-blank k
+      tail : (l : List ℕ) (x k : ℕ) → x ∷ l ≡ zeros k → l ≡ zeros (k - 1)
+      tail l x k e = ap (drop 1) e ∙ zeros-drop k
 
-      go : j < length out → drop (suc j) out ≡ blank (size - suc j)
+      go : j < length out → drop (suc j) out ≡ zeros (size - suc j)
       go room =
           let e : size - j - 1 ≡ size - suc j = omega arith in
-          tail (drop (suc j) out) (getD out j 0) (size - j) (sym (drop-cons out j 0 room) ∙ P .zeros) ∙ ap blank e
+          tail (drop (suc j) out) (getD out j 0) (size - j) (sym (drop-cons out j 0 room) ∙ P .rest) ∙ ap zeros e
 
   pub packed-end : (all : List ℕ) → Packed size out j [] all → j ≤ size → out ≡ padded size all
   packed-end all P h =
       let e : j ≡ length all = omega (arith, P .count) in
       sym (take-append-drop j out)
-      ∙ ap₂ _++_ (sym (append-nil (take j out)) ∙ P .whole) (P .zeros ∙ ap (λ (k : ℕ). blank (size - k)) e)
+      ∙ ap₂ _++_ (sym (append-nil (take j out)) ∙ P .whole) (P .rest ∙ ap (λ (k : ℕ). zeros (size - k)) e)

@@ -12,7 +12,7 @@ use lib.Seq.{getD-set-same, getD-set-other}
 use lib.Pow.{pow-pos}
 use lib.Bits.{xor-lt}
 use lib.Count.{trailingZeros, under}
-use Rattle.coding.specs.Lists.{blank}
+use Rattle.coding.specs.Lists.{zeros}
 use Rattle.coding.specs.Word.{_⊕_, bit}
 use Rattle.coding.specs.Matrix.{sel, encode, Codeword, Inside}
 use Rattle.coding.specs.Reduced.{Leads, rest, wipe, put, addTo, reduceFrom, reduce}
@@ -193,16 +193,16 @@ added n B R r h = go (rest B r) refl
               ∙ ap₂ _⊕_ (put-has n B R (suc y) (trailingZeros n (suc y)) hx L f) (keeps (encode B r) (encode-twice n B R r)) ∙ back;
         }
 
-pub blank-at : (n p : ℕ) → p < length (blank n) → getD (blank n) p 0 ≡ 0
-blank-at n p h = getD-replicate n p 0 0 (rw length-replicate at h)
+pub zeros-at : (n p : ℕ) → p < length (zeros n) → getD (zeros n) p 0 ≡ 0
+zeros-at n p h = getD-replicate n p 0 0 (rw length-replicate at h)
 
-pub start : (n : ℕ) → ByPlace n (blank n)
+pub start : (n : ℕ) → ByPlace n (zeros n)
 start n = record {
   size = length-replicate n 0;
-  below = λ p h. rw (blank-at n p h) (pow-pos n);
-  lead = λ p h ne. absurd (ne (blank-at n p h));
-  leftmost = λ p j h l. rw (blank-at n p h) (bit-of-zero j);
-  clear = λ p q h k d ne. rw (blank-at n p h) (bit-of-zero q);
+  below = λ p h. rw (zeros-at n p h) (pow-pos n);
+  lead = λ p h ne. absurd (ne (zeros-at n p h));
+  leftmost = λ p j h l. rw (zeros-at n p h) (bit-of-zero j);
+  clear = λ p q h k d ne. rw (zeros-at n p h) (bit-of-zero q);
 }
 
 -- the new rows are sums of the old ones: they stay in whatever holds those and is closed under sums
@@ -248,8 +248,8 @@ spans n (r ∷ rs) B R f =
         each (suc i) h = t .has i (le-of-suc-le-suc h)
 
 module _ (n : ℕ) (rs : List ℕ) (fits : Inside n rs) where
-  pub whole : Spans n (blank n) rs (reduce n rs)
-  whole = spans n rs (blank n) (start n) fits
+  pub whole : Spans n (zeros n) rs (reduce n rs)
+  whole = spans n rs (zeros n) (start n) fits
 
   -- a word is a codeword exactly when the reduced rows keep it
   pub codeword-kept : (w : ℕ) → Codeword rs w → encode (reduce n rs) w ≡ w
@@ -260,8 +260,8 @@ module _ (n : ℕ) (rs : List ℕ) (fits : Inside n rs) where
   kept-codeword w e =
       subst (Codeword rs) e
       (encode-in (Codeword rs) (codeword-zero rs) (codeword-xor rs) (reduce n rs)
-      (reduce-in (Codeword rs) (codeword-zero rs) (codeword-xor rs) n rs (blank n)
-      (λ p h. rw (blank-at n p h) (codeword-zero rs)) (row-codeword rs)) w)
+      (reduce-in (Codeword rs) (codeword-zero rs) (codeword-xor rs) n rs (zeros n)
+      (λ p h. rw (zeros-at n p h) (codeword-zero rs)) (row-codeword rs)) w)
 
   -- 01, part 2: a word of n places is a codeword exactly when its syndrome is 0
   pub syndrome-codeword : (w : ℕ) → w < 2 ^ n → (syndrome (checks n rs) w ≡ 0) ↔ Codeword rs w

@@ -2,7 +2,7 @@
 use mathlib.Core.Path.{_≡_, refl, sym, ap, _∙_}
 use mathlib.Core.Logic.{_↔_}
 use mathlib.Core.List.{List}
-use mathlib.Core.Bool.{Bool, true, false}
+use mathlib.Core.Bool.{Bool, true, false, cond}
 use Prim.Native.Nat.{ℕ, zero, suc, _^_, _≤_, _<_, suc-le-suc}
 use native.Mathlib.Nat.{le-refl, le-of-suc-le-suc, zero-lt-suc}
 use native.Mathlib.Decide.{decLe}
@@ -10,7 +10,7 @@ use native.Mathlib.Omega.{arith}
 use lib.Dec.{eqb}
 use lib.ListN.{length}
 use borrow.Author.Tests.{ltb-true, eqb-true, lt-ltb, eq-eqb}
-use Rattle.coding.specs.Lists.{pick, first}
+use Rattle.coding.specs.Lists.{first}
 use Rattle.coding.specs.Matrix.{encode, Codeword, messageOf, isCodeword}
 
 -- nothing is both
@@ -21,7 +21,7 @@ pub first-le : (p : ℕ → Bool) (m : ℕ) → first p m ≤ m
 first-le p zero = le-refl 0
 first-le p (suc m) = go (p zero) (first-le (λ i. p (suc i)) m)
   where
-    go : (b : Bool) → first (λ i. p (suc i)) m ≤ m → pick b zero (suc (first (λ i. p (suc i)) m)) ≤ suc m
+    go : (b : Bool) → first (λ i. p (suc i)) m ≤ m → cond b zero (suc (first (λ i. p (suc i)) m)) ≤ suc m
     go true l = omega arith
     go false l = suc-le-suc l
 
@@ -31,7 +31,7 @@ first-hit p zero h = absurd (omega arith)
 first-hit p (suc m) h = go (p zero) refl (first-hit (λ i. p (suc i)) m) h
   where
     go : (b : Bool) → p zero ≡ b → (first (λ i. p (suc i)) m < m → p (suc (first (λ i. p (suc i)) m)) ≡ true)
-        → pick b zero (suc (first (λ i. p (suc i)) m)) < suc m → p (pick b zero (suc (first (λ i. p (suc i)) m))) ≡ true
+        → cond b zero (suc (first (λ i. p (suc i)) m)) < suc m → p (cond b zero (suc (first (λ i. p (suc i)) m))) ≡ true
     go true e f l = e
     go false e f l = f (le-of-suc-le-suc l)
 
@@ -41,7 +41,7 @@ first-before p zero j h = absurd (omega arith)
 first-before p (suc m) j h = go (p zero) refl (first-before (λ i. p (suc i)) m) j h
   where
     go : (b : Bool) → p zero ≡ b → ((j : ℕ) → j < first (λ i. p (suc i)) m → p (suc j) ≡ false)
-        → (j : ℕ) → j < pick b zero (suc (first (λ i. p (suc i)) m)) → p j ≡ false
+        → (j : ℕ) → j < cond b zero (suc (first (λ i. p (suc i)) m)) → p j ≡ false
     go true e f j l = absurd (omega arith)
     go false e f zero l = e
     go false e f (suc j) l = f j (le-of-suc-le-suc l)
@@ -49,9 +49,9 @@ first-before p (suc m) j h = go (p zero) refl (first-before (λ i. p (suc i)) m)
 -- these facts say which index it is
 pub first-is : (p : ℕ → Bool) (m r : ℕ) → r ≤ m → ((j : ℕ) → j < r → p j ≡ false) → (r < m → p r ≡ true) → first p m ≡ r
 first-is p zero r h f t = omega arith
-first-is p (suc m) zero h f t = ap (λ (b : Bool). pick b zero (suc (first (λ i. p (suc i)) m))) (t (zero-lt-suc m))
+first-is p (suc m) zero h f t = ap (λ (b : Bool). cond b zero (suc (first (λ i. p (suc i)) m))) (t (zero-lt-suc m))
 first-is p (suc m) (suc r) h f t =
-    ap (λ (b : Bool). pick b zero (suc (first (λ i. p (suc i)) m))) (f zero (zero-lt-suc r))
+    ap (λ (b : Bool). cond b zero (suc (first (λ i. p (suc i)) m))) (f zero (zero-lt-suc r))
     ∙ ap suc (first-is (λ i. p (suc i)) m r (le-of-suc-le-suc h) (λ j l. f (suc j) (suc-le-suc l)) (λ l. t (suc-le-suc l)))
 
 -- an index that passes is not before the one found

@@ -10,12 +10,12 @@ use lib.ListN.{length, getD, set, length-set}
 use lib.Seq.{getD-set-same, getD-set-other}
 use lib.Pow.{pow-pos}
 use lib.Bits.{xor-lt}
-use Rattle.coding.specs.Lists.{blank}
+use Rattle.coding.specs.Lists.{zeros}
 use Rattle.coding.specs.Word.{_⊕_, bit}
 use Rattle.coding.specs.Matrix.{sel, encode, Codeword, Inside, Independent, IsMessage, messageOf}
 use Rattle.coding.specs.Reduced.{wipe, wipes, put, reduce, Traced}
 use Rattle.coding.proofs.MatrixLaws.{sel-lt, encode-xor, encode-zero, encode-lt}
-use Rattle.coding.proofs.ReduceLaws.{put-length, put-same, put-other, blank-at, codeword-kept}
+use Rattle.coding.proofs.ReduceLaws.{put-length, put-same, put-other, zeros-at, codeword-kept}
 use Rattle.coding.proofs.SearchLaws.{message-hit, message-le}
 use Rattle.coding.proofs.DependLaws.{one-message}
 
@@ -37,11 +37,11 @@ trace-step rs m x c k y (hm, em) (hk, ek) = (
 pub traced-at : (rs M B : List ℕ) → Traced rs M B → (p : ℕ) → p < length B → Trace rs (getD M p 0) (getD B p 0)
 traced-at rs M B t p h = (t .below p (rw (t .size) h), t .sums p h)
 
-pub traced-start : (rs : List ℕ) (n : ℕ) → Traced rs (blank n) (blank n)
+pub traced-start : (rs : List ℕ) (n : ℕ) → Traced rs (zeros n) (zeros n)
 traced-start rs n = record {
   size = refl;
-  below = λ p h. rw (blank-at n p h) (pow-pos (length rs));
-  sums = λ p h. rw (blank-at n p h) (encode-zero rs);
+  below = λ p h. rw (zeros-at n p h) (pow-pos (length rs));
+  sums = λ p h. rw (zeros-at n p h) (encode-zero rs);
 }
 
 -- ---- a row is put at its pivot, and its message beside it

@@ -10,7 +10,7 @@ use lib.ListN.{length, set, length-map}
 use lib.Seq.{set-append-left}
 use lib.Pow.{pow-mono}
 use lib.Count.{trailingZeros}
-use Rattle.coding.specs.Lists.{blank}
+use Rattle.coding.specs.Lists.{zeros}
 use Rattle.coding.specs.Word.{_⊕_, bit}
 use Rattle.coding.specs.Matrix.{sel, encode, Inside}
 use Rattle.coding.specs.Reduced.{Leads, rest, wipe, put, addTo, reduceFrom, reduce, rowsOf}
@@ -27,36 +27,36 @@ inside-wide n m wide rs f i h = lt-of-lt-of-le (f i h) (pow-mono wide)
 
 -- ---- zero rows at the end
 
-encode-blank : (m u : ℕ) → encode (blank m) u ≡ 0
-encode-blank zero u = refl
-encode-blank (suc m) u = ap₂ _⊕_ (sel-zero (u % 2)) (encode-blank m (u / 2))
+zeros-encode : (m u : ℕ) → encode (zeros m) u ≡ 0
+zeros-encode zero u = refl
+zeros-encode (suc m) u = ap₂ _⊕_ (sel-zero (u % 2)) (zeros-encode m (u / 2))
 
-pub encode-zeros : (B : List ℕ) (m u : ℕ) → encode (B ++ blank m) u ≡ encode B u
-encode-zeros [] m u = encode-blank m u
+pub encode-zeros : (B : List ℕ) (m u : ℕ) → encode (B ++ zeros m) u ≡ encode B u
+encode-zeros [] m u = zeros-encode m u
 encode-zeros (b ∷ B) m u = ap (λ (x : ℕ). sel (u % 2) b ⊕ x) (encode-zeros B m (u / 2))
 
-column-blank : (m q : ℕ) → column (blank m) q ≡ 0
-column-blank zero q = refl
-column-blank (suc m) q = omega (arith, bit-of-zero q, column-blank m q)
+zeros-column : (m q : ℕ) → column (zeros m) q ≡ 0
+zeros-column zero q = refl
+zeros-column (suc m) q = omega (arith, bit-of-zero q, zeros-column m q)
 
-pub column-zeros : (B : List ℕ) (m q : ℕ) → column (B ++ blank m) q ≡ column B q
-column-zeros [] m q = column-blank m q
+pub column-zeros : (B : List ℕ) (m q : ℕ) → column (B ++ zeros m) q ≡ column B q
+column-zeros [] m q = zeros-column m q
 column-zeros (b ∷ B) m q = ap (λ (x : ℕ). bit b q + 2 * x) (column-zeros B m q)
 
-syndrome-blank : (m w : ℕ) → syndrome (blank m) w ≡ 0
-syndrome-blank zero w = refl
-syndrome-blank (suc m) w = omega (arith, parity-zero w, syndrome-blank m w)
+zeros-syndrome : (m w : ℕ) → syndrome (zeros m) w ≡ 0
+zeros-syndrome zero w = refl
+zeros-syndrome (suc m) w = omega (arith, parity-zero w, zeros-syndrome m w)
 
-pub syndrome-zeros : (hs : List ℕ) (m w : ℕ) → syndrome (hs ++ blank m) w ≡ syndrome hs w
-syndrome-zeros [] m w = syndrome-blank m w
+pub syndrome-zeros : (hs : List ℕ) (m w : ℕ) → syndrome (hs ++ zeros m) w ≡ syndrome hs w
+syndrome-zeros [] m w = zeros-syndrome m w
 syndrome-zeros (h ∷ hs) m w = ap (λ (x : ℕ). Rattle.coding.specs.Word.parity w h + 2 * x) (syndrome-zeros hs m w)
 
-rows-blank : (m : ℕ) → rowsOf (blank m) ≡ []
-rows-blank zero = refl
-rows-blank (suc m) = rows-blank m
+zeros-rows : (m : ℕ) → rowsOf (zeros m) ≡ []
+zeros-rows zero = refl
+zeros-rows (suc m) = zeros-rows m
 
-pub rows-zeros : (B : List ℕ) (m : ℕ) → rowsOf (B ++ blank m) ≡ rowsOf B
-rows-zeros [] m = rows-blank m
+pub rows-zeros : (B : List ℕ) (m : ℕ) → rowsOf (B ++ zeros m) ≡ rowsOf B
+rows-zeros [] m = zeros-rows m
 rows-zeros (zero ∷ B) m = rows-zeros B m
 rows-zeros (suc b ∷ B) m = ap (λ (l : List ℕ). suc b ∷ l) (rows-zeros B m)
 
@@ -72,13 +72,13 @@ lead-one w p q f g = go (ℕ-discrete p q) (decLe p q)
 
 -- ---- the reduction in m places
 
-map-zeros : (f : ℕ → ℕ) → f 0 ≡ 0 → (B : List ℕ) (k : ℕ) → map f (B ++ blank k) ≡ map f B ++ blank k
+map-zeros : (f : ℕ → ℕ) → f 0 ≡ 0 → (B : List ℕ) (k : ℕ) → map f (B ++ zeros k) ≡ map f B ++ zeros k
 map-zeros f z [] zero = refl
 map-zeros f z [] (suc k) = ap₂ _∷_ z (map-zeros f z [] k)
 map-zeros f z (b ∷ B) k = ap (λ (l : List ℕ). f b ∷ l) (map-zeros f z B k)
 
 module _ (n m : ℕ) (wide : n ≤ m) where
-  add-zeros : (B : List ℕ) → length B ≡ n → (x : ℕ) → x < 2 ^ n → addTo m (B ++ blank (m - n)) x ≡ addTo n B x ++ blank (m - n)
+  add-zeros : (B : List ℕ) → length B ≡ n → (x : ℕ) → x < 2 ^ n → addTo m (B ++ zeros (m - n)) x ≡ addTo n B x ++ zeros (m - n)
   add-zeros B size zero h = refl
   add-zeros B size (suc y) h =
       let L : IsLead n (suc y) (trailingZeros n (suc y)) = is-lead n (suc y) h (suc-ne-zero y) in
@@ -87,21 +87,21 @@ module _ (n m : ℕ) (wide : n ≤ m) where
       let q = trailingZeros n (suc y) in
       let f = wipe q (suc y) in
       let k : q < length (map (wipe q (suc y)) B) = rw (length-map B (wipe q (suc y)), size) (L .inside) in
-      ap (λ (t : ℕ). put t (B ++ blank (m - n)) (suc y)) e
+      ap (λ (t : ℕ). put t (B ++ zeros (m - n)) (suc y)) e
       ∙ ap (λ (l : List ℕ). set l q (suc y)) (map-zeros (wipe q (suc y)) (wipe-zero q (suc y)) B (m - n))
-      ∙ set-append-left (map (wipe q (suc y)) B) (blank (m - n)) q (suc y) k
+      ∙ set-append-left (map (wipe q (suc y)) B) (zeros (m - n)) q (suc y) k
 
-  reduce-zeros : (rs B : List ℕ) → ByPlace n B → Inside n rs → reduceFrom m (B ++ blank (m - n)) rs ≡ reduceFrom n B rs ++ blank (m - n)
+  reduce-zeros : (rs B : List ℕ) → ByPlace n B → Inside n rs → reduceFrom m (B ++ zeros (m - n)) rs ≡ reduceFrom n B rs ++ zeros (m - n)
   reduce-zeros [] B R f = refl
   reduce-zeros (r ∷ rs) B R f =
-      let e : rest (B ++ blank (m - n)) r ≡ rest B r = ap (λ (x : ℕ). r ⊕ x) (encode-zeros B (m - n) r) in
+      let e : rest (B ++ zeros (m - n)) r ≡ rest B r = ap (λ (x : ℕ). r ⊕ x) (encode-zeros B (m - n) r) in
       let h : r < 2 ^ n = f 0 (omega arith) in
-      ap (λ (A : List ℕ). reduceFrom m A rs) (ap (addTo m (B ++ blank (m - n))) e ∙ add-zeros B (R .size) (rest B r) (rest-lt n B R r h))
+      ap (λ (A : List ℕ). reduceFrom m A rs) (ap (addTo m (B ++ zeros (m - n))) e ∙ add-zeros B (R .size) (rest B r) (rest-lt n B R r h))
       ∙ reduce-zeros rs (addTo n B (rest B r)) (added n B R r h .reduced) (λ i l. f (suc i) (suc-le-suc l))
 
-  blank-split : blank m ≡ blank n ++ blank (m - n)
-  blank-split = let e : m ≡ n + (m - n) = omega arith in ap blank e ∙ sym (lib.ListN.replicate-append-replicate n (m - n) 0)
+  zeros-split : zeros m ≡ zeros n ++ zeros (m - n)
+  zeros-split = let e : m ≡ n + (m - n) = omega arith in ap zeros e ∙ sym (lib.ListN.replicate-append-replicate n (m - n) 0)
 
   -- the reduced rows in m places are those in n places, and zeros
-  pub reduce-wide : (rs : List ℕ) → Inside n rs → reduce m rs ≡ reduce n rs ++ blank (m - n)
-  reduce-wide rs f = ap (λ (B : List ℕ). reduceFrom m B rs) blank-split ∙ reduce-zeros rs (blank n) (start n) f
+  pub reduce-wide : (rs : List ℕ) → Inside n rs → reduce m rs ≡ reduce n rs ++ zeros (m - n)
+  reduce-wide rs f = ap (λ (B : List ℕ). reduceFrom m B rs) zeros-split ∙ reduce-zeros rs (zeros n) (start n) f

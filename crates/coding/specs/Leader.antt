@@ -3,10 +3,9 @@ use mathlib.Core.Path.{_≡_}
 use mathlib.Core.Logic.{_↔_}
 use mathlib.Core.List.{List}
 use mathlib.Core.Option.{Option, none, some}
-use mathlib.Core.Bool.{Bool, true, false}
+use mathlib.Core.Bool.{Bool, true, false, cond}
 use Prim.Native.Nat.{ℕ, zero, suc, _-_, _^_, _≤_, _<_}
 use lib.Dec.{eqb, ltb}
-use Rattle.coding.specs.Lists.{pick}
 use Rattle.coding.specs.Word.{_⊕_, weight}
 use Rattle.coding.specs.Matrix.{Codeword}
 use Rattle.coding.specs.Check.{checks, syndrome}
@@ -28,7 +27,7 @@ pub record IsLeader (n : ℕ) (rows : List ℕ) (s l : ℕ) : Type 0 where
 abbrev pub merge : Bool → ℕ → Option ℕ → Option ℕ
 merge false m o = o
 merge true m none = some m
-merge true m (some b) = some (pick (ltb (weight m) (weight b)) m b)
+merge true m (some b) = some (cond (ltb (weight m) (weight b)) m b)
 
 abbrev pub lightestBelow : (ℕ → Bool) → ℕ → Option ℕ
 lightestBelow p zero = none

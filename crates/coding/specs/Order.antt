@@ -1,10 +1,10 @@
 -- The words by rising weight, of equal weight by rising number, and the list that they fill: a word takes the entry of its syndrome
 -- where that is still blank, so that the first met is the lightest and smallest.
 use mathlib.Core.List.{List, [], _∷_, _++_, map}
+use mathlib.Core.Bool.{cond}
 use Prim.Native.Nat.{ℕ, zero, suc, _+_, _^_}
 use lib.Dec.{eqb}
 use lib.ListN.{length, getD, set, replicate}
-use Rattle.coding.specs.Lists.{pick}
 use Rattle.coding.specs.Weight.{count}
 use Rattle.coding.specs.Leader.{noLeader}
 
@@ -20,7 +20,7 @@ order n zero = []
 order n (suc t) = order n t ++ words n t
 
 abbrev pub fill : (ℕ → ℕ) → List ℕ → ℕ → List ℕ
-fill syn L w = pick (eqb (getD L (syn w) 0) noLeader) (set L (syn w) w) L
+fill syn L w = cond (eqb (getD L (syn w) 0) noLeader) (set L (syn w) w) L
 
 abbrev pub fills : (ℕ → ℕ) → List ℕ → List ℕ → List ℕ
 fills syn L [] = L

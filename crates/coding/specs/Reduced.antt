@@ -5,7 +5,7 @@ use mathlib.Core.List.{List, [], _∷_, map}
 use Prim.Native.Nat.{ℕ, zero, suc, _<_}
 use lib.ListN.{length, getD, set}
 use lib.Count.{trailingZeros}
-use Rattle.coding.specs.Lists.{blank}
+use Rattle.coding.specs.Lists.{zeros}
 use Rattle.coding.specs.Word.{_⊕_, bit}
 use Rattle.coding.specs.Matrix.{sel, encode, Codeword, Inside}
 
@@ -58,7 +58,7 @@ reduceFrom n B (r ∷ rows) = reduceFrom n (addTo n B (rest B r)) rows
 
 -- the reduced rows by place
 abbrev pub reduce : ℕ → List ℕ → List ℕ
-reduce n rows = reduceFrom n (blank n) rows
+reduce n rows = reduceFrom n (zeros n) rows
 
 -- the rows of such a list, without the places that are no pivot
 abbrev pub rowsOf : List ℕ → List ℕ

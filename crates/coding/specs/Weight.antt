@@ -2,22 +2,22 @@
 use mathlib.Core.Path.{_≡_}
 use mathlib.Core.Logic.{_≢_}
 use mathlib.Core.List.{List}
-use mathlib.Core.Bool.{Bool}
+use mathlib.Core.Bool.{Bool, cond, _&&_}
 use Prim.Native.Nat.{ℕ, zero, suc, _+_, _-_, _^_, _≤_, min}
 use lib.Dec.{eqb}
 use lib.ListN.{length}
-use Rattle.coding.specs.Lists.{pick, both, tabulate}
+use Rattle.coding.specs.Lists.{tabulate}
 use Rattle.coding.specs.Word.{weight, distance}
 use Rattle.coding.specs.Matrix.{encode, Codeword, isCodeword}
 
 -- how many numbers below m pass the test
 abbrev pub count : (ℕ → Bool) → ℕ → ℕ
 count p zero = 0
-count p (suc m) = pick (p m) 1 0 + count p m
+count p (suc m) = cond (p m) 1 0 + count p m
 
 -- how many words of n places are codewords of weight j
 unfoldable pub weightCount : ℕ → List ℕ → ℕ → ℕ
-weightCount n rows j = count (λ w. both (isCodeword rows w) (eqb (weight w) j)) (2 ^ n)
+weightCount n rows j = count (λ w. isCodeword rows w && eqb (weight w) j) (2 ^ n)
 
 -- the counts of the weights 0 to n
 abbrev pub weightCounts : ℕ → List ℕ → List ℕ

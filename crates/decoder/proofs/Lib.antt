@@ -1,3 +1,4 @@
-pub mod DecodedLaws
 mod PromiseLaws
 mod StepLaws
+pub mod CauseLaws
+mod SlotLaws

@@ -6,21 +6,23 @@ use Prim.Native.Nat.{ℕ, _-_, _^_, _<_}
 use lib.ListN.{length, getD, drop}
 use Rattle.coding.specs.Leader.{IsLeader}
 use Rattle.coding.specs.Weight.{dmin}
-use Rattle.linear.specs.Accepted.{Accepted}
+use Rattle.words.specs.Accepted.{Accepted}
 use Rattle.words.specs.Refusal.{onDone}
 use Rattle.words.specs.declared.answer.Refusal.{Refusal}
 use Rattle.words.specs.declared.answer.Answer.{Answer}
 use Rattle.words.specs.declared.answer.Answer.the-variants.{Done, Refused}
-use Rattle.linear.proofs.AcceptLaws.{accepted-in}
+use Rattle.words.proofs.AcceptedLaws.{accepted-in}
 use Rattle.words.proofs.ShapeLaws.{refused-done}
 use Rattle.words.proofs.ListLaws.{kept, written}
-use Rattle.weights.proofs.DescribeLaws.{distance-is}
+use Rattle.words.proofs.CodeLaws.{distance-is}
 use Rattle.leaders.specs.Leaders.{leadersList}
-use Rattle.outcomes.specs.Causes.{decodeAnswer}
-use Rattle.decoder.specs.Decoded.{wordOf, countOf, Decoded}
+use Rattle.decoder.specs.Causes.{decodeAnswer}
+use Rattle.outcomes.specs.Outcome.{wordOf, countOf}
+use Rattle.decoder.specs.Decoded.{Decoded}
 use Rattle.outcomes.specs.declared.outcome.Reading.{Reading}
-use Rattle.outcomes.proofs.CauseLaws.{Passed, batch-in, refused-number, radius-in}
-use Rattle.decoder.proofs.DecodedLaws.{slot-at, nearest-rule, radius-rule, clean-rule}
+use Rattle.decoder.proofs.CauseLaws.{Passed, batch-in, refused-number, radius-in}
+use Rattle.decoder.proofs.SlotLaws.{slot-at}
+use Rattle.outcomes.proofs.DemandLaws.{nearest-rule, radius-rule, clean-rule}
 
 module _ (n k : ℕ) (rows : List ℕ) (reading : Reading) (words out counts work : List ℕ) where
   -- causes 1 to 9 leave every list as it was

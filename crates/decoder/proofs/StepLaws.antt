@@ -11,16 +11,17 @@ use Rattle.coding.specs.Check.{checks, syndrome}
 use Rattle.words.specs.Limits.{maxChecks}
 use Rattle.words.specs.Refusal.{onDone}
 use Rattle.words.specs.declared.answer.Answer.the-variants.{Done}
-use Rattle.linear.specs.Accepted.{Accepted}
+use Rattle.words.specs.Accepted.{Accepted}
 use Rattle.leaders.specs.Leaders.{leadersList, LeadersOf}
 use Rattle.leaders.specs.declared.build.Leaders.{Leaders}
-use Rattle.leaders.proofs.BuiltLaws.{checks-below, leaders-long}
+use Rattle.words.proofs.CodeLaws.{checks-below}
+use Rattle.leaders.proofs.BuiltLaws.{leaders-long}
 use Rattle.leaders.proofs.PromiseLaws.{size-is as shift-is, leaders-pass}
-use Rattle.outcomes.specs.Causes.{decodeAnswer}
+use Rattle.decoder.specs.Causes.{decodeAnswer}
 use Rattle.outcomes.specs.declared.outcome.Reading.{Reading}
-use Rattle.outcomes.proofs.CauseLaws.{batch-in}
+use Rattle.decoder.proofs.CauseLaws.{batch-in}
 use Rattle.decoder.specs.Decoded.{wordBy, countBy, Decoded}
-use Rattle.decoder.proofs.DecodedLaws.{words-are, counts-are}
+use Rattle.decoder.proofs.SlotLaws.{words-are, counts-are}
 use Rattle.decoder.proofs.PromiseLaws.{past-causes, decode-done}
 
 -- causes 1 to 9 have passed

@@ -8,18 +8,17 @@ use Rattle.coding.specs.Word.{distance}
 use Rattle.coding.specs.Matrix.{Codeword}
 use Rattle.coding.specs.Check.{syndrome}
 use Rattle.coding.specs.Weight.{dmin, MinimumDistance}
-use Rattle.coding.specs.Leader.{syndromeOf, IsLeader, leaderOf}
+use Rattle.coding.specs.Leader.{IsLeader}
 use Rattle.coding.specs.Radius.{NearestRule, RadiusRules}
 use Rattle.words.specs.Refusal.{numberOf, onDone}
 use Rattle.words.specs.declared.answer.Refusal.{Refusal}
 use Rattle.words.specs.declared.answer.Answer.{Answer}
 use Rattle.words.specs.declared.answer.Answer.the-variants.{Done, Refused}
 use Rattle.leaders.specs.Leaders.{leadersList}
-use Rattle.outcomes.specs.Outcome.{outcomeOf, wordIn, countIn}
-use Rattle.outcomes.specs.Causes.{decodeAnswer}
+use Rattle.outcomes.specs.Outcome.{outcomeOf, wordIn, countIn, decodedAs, wordOf, countOf}
+use Rattle.decoder.specs.Causes.{decodeAnswer}
 use Rattle.outcomes.specs.declared.outcome.Reading.{Reading}
 use Rattle.outcomes.specs.declared.outcome.Reading.the-variants.{Nearest, Within}
-use Rattle.outcomes.specs.declared.outcome.Outcome.{Outcome}
 use Rattle.outcomes.specs.declared.outcome.Outcome.the-variants.{Clean}
 
 -- the slots of a word, by a list of leaders and check rows
@@ -28,16 +27,6 @@ wordBy reading leaders checks w = wordIn (outcomeOf reading w (getD leaders (syn
 
 abbrev pub countBy : Reading → List ℕ → List ℕ → ℕ → ℕ
 countBy reading leaders checks w = countIn (outcomeOf reading w (getD leaders (syndrome checks w) 0))
-
--- how a received word ends: with the leader of its syndrome
-abbrev pub decodedAs : ℕ → List ℕ → Reading → ℕ → Outcome
-decodedAs n rows reading w = outcomeOf reading w (leaderOf n rows (syndromeOf n rows w))
-
-abbrev pub wordOf : ℕ → List ℕ → Reading → ℕ → ℕ
-wordOf n rows reading w = wordIn (decodedAs n rows reading w) w
-
-abbrev pub countOf : ℕ → List ℕ → Reading → ℕ → ℕ
-countOf n rows reading w = countIn (decodedAs n rows reading w)
 
 -- Decode either refuses under 1 to 9 with every list unchanged, or succeeds. Then slot i of the codewords and of the counts is the answer
 -- to word i, 255 meaning far, the working list holds the leaders, and later slots are as they were; dmin is the minimum distance, demand 3

@@ -1,13 +1,13 @@
 // Decode: a batch of received words, read as the nearest codewords or within a radius.
-use checks::check::syndrome;
+use crate::causes::Measured;
+use crate::causes::batch_cause;
+use crate::causes::measured_cause;
 use leaders::build::leaders_of;
-use outcomes::causes::Measured;
-use outcomes::causes::batch_cause;
-use outcomes::causes::measured_cause;
 use outcomes::outcome::Reading;
 use outcomes::outcome::count_in;
-use outcomes::outcome::judged;
+use outcomes::outcome::outcome_of;
 use outcomes::outcome::word_in;
+use parity::check::syndrome;
 use words::answer::Answer;
 use words::limits::MAX_CHECKS;
 ghost use mathlib.Core.Path.{_≡_};
@@ -18,7 +18,7 @@ ghost use Rattle.coding.specs.Check.{syndrome};
 ghost use Rattle.coding.specs.Weight.{dmin};
 ghost use Rattle.words.specs.Refusal.{ifDone};
 ghost use Rattle.words.specs.declared.answer.Answer.the-variants.{Done};
-ghost use Rattle.outcomes.specs.Causes.{decodeAnswer};
+ghost use Rattle.decoder.specs.Causes.{decodeAnswer};
 ghost use Rattle.decoder.specs.Decoded.{wordBy, countBy, Decoded};
 
 // Each word is decoded with its leader; the later slots keep their values.
@@ -39,7 +39,7 @@ fn decode_words(
     while i < words.len() {
         let w = words[i];
         let s = syndrome(checks, w) as usize;
-        let o = judged(reading, w, leaders[s]);
+        let o = outcome_of(reading, w, leaders[s]);
         out[i] = word_in(o, w);
         counts[i] = count_in(o);
         i += 1;

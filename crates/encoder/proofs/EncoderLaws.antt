@@ -24,10 +24,9 @@ use Rattle.words.specs.declared.answer.Refusal.the-variants.{NoCodeword}
 use Rattle.words.specs.declared.answer.Answer.{Answer}
 use Rattle.words.specs.declared.answer.Answer.the-variants.{Done, Refused}
 use Rattle.words.proofs.ListLaws.{list-in, goes}
-use Rattle.linear.specs.Accepted.{matrixAnswer, Accepted}
-use Rattle.linear.proofs.AcceptLaws.{accepted-in}
-use Rattle.linear.proofs.TableLaws.{one-is, back-is}
-use Rattle.checks.proofs.ChecksLaws.{codeword-syndrome}
+use Rattle.words.specs.Accepted.{matrixAnswer, Accepted}
+use Rattle.words.proofs.AcceptedLaws.{accepted-in}
+use Rattle.words.proofs.CodeLaws.{one-is, back-is, codeword-syndrome}
 use Rattle.encoder.specs.Encoded.{encodeAnswer, Encoded}
 use Rattle.encoder.specs.MessagesRead.{firstOther, messageAnswer, MessagesRead}
 

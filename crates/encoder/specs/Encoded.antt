@@ -9,7 +9,7 @@ use Rattle.coding.specs.Check.{column}
 use Rattle.words.specs.Refusal.{andThen, onDone}
 use Rattle.words.specs.Lists.{listAnswer}
 use Rattle.words.specs.declared.answer.Answer.{Answer}
-use Rattle.linear.specs.Accepted.{matrixAnswer, Accepted}
+use Rattle.words.specs.Accepted.{matrixAnswer, Accepted}
 
 -- causes 1 to 4 and 6 to 8
 abbrev pub encodeAnswer : ℕ → ℕ → List ℕ → List ℕ → ℕ → Answer

@@ -8,7 +8,7 @@ use lib.ListN.{length, getD}
 use Rattle.coding.specs.Lists.{first}
 use Rattle.coding.specs.Matrix.{encode, Codeword, IsMessage, messageOf, isCodeword}
 use Rattle.words.specs.Refusal.{unless, andThen, onDone}
-use Rattle.linear.specs.Accepted.{matrixAnswer, Accepted}
+use Rattle.words.specs.Accepted.{matrixAnswer, Accepted}
 use Rattle.words.specs.Lists.{listAnswer}
 use Rattle.words.specs.declared.answer.Refusal.the-variants.{NoCodeword}
 use Rattle.words.specs.declared.answer.Answer.{Answer}

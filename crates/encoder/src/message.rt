@@ -1,7 +1,7 @@
 // Message: codewords are read back to the messages of the matrix as given.
 use crate::encode::row_sums;
-use checks::check::code_of;
-use checks::check::syndrome;
+use parity::check::code_of;
+use parity::check::syndrome;
 use words::answer::Answer;
 use words::answer::Refusal;
 use words::limits::MAX_CHECKS;

@@ -21,11 +21,11 @@ use Rattle.coding.proofs.SearchLaws.{codeword-test, codeword-fails}
 use Rattle.words.specs.declared.answer.Refusal.the-variants.{WordOutside, NoCodeword}
 use Rattle.words.specs.declared.answer.Answer.the-variants.{Done, Refused}
 use Rattle.words.proofs.ShapeLaws.{refused-done}
-use Rattle.linear.proofs.TableLaws.{one-is, back-is}
+use Rattle.words.proofs.CodeLaws.{one-is, back-is}
 use Rattle.outcomes.specs.Outcome.{outcomeOf, wordIn, countIn}
 use Rattle.outcomes.specs.declared.outcome.Reading.the-variants.{Within}
 use Rattle.outcomes.specs.declared.outcome.Outcome.the-variants.{Clean}
-use Rattle.decoder.proofs.DecodedLaws.{outcome-found, outcome-none, radius-rule, clean-rule}
+use Rattle.outcomes.proofs.DemandLaws.{outcome-found, outcome-none, radius-rule, clean-rule}
 use Rattle.golay_code.specs.Golay.{golayChecks, golayRows}
 use Rattle.golay_code.proofs.GolayLaws.{golay-size, golay-inside, golay-accepted, golay-dmin, golay-distance}
 use Rattle.golay.specs.Steps.{Pattern, noPattern, ErrorPattern}

@@ -2,7 +2,7 @@
 -- zeros below its highest bit. Assumes nothing.
 use mathlib.Core.Path.{_≡_, refl, sym, ap, ap₂, _∙_}
 use mathlib.Core.List.{List, [], _∷_}
-use mathlib.Core.Bool.{Bool, true, false}
+use mathlib.Core.Bool.{Bool, true, false, cond}
 use Prim.Native.Nat.{ℕ, zero, suc, _+_, _-_, _*_, _/_, _%_, _^_, _≤_, _<_, min, suc-le-suc}
 use native.Mathlib.Nat.{zero-mul, mul-zero, mul-one, add-mul, mul-assoc, pow-suc, zero-min}
 use native.Mathlib.Decide.{decLe}
@@ -13,7 +13,7 @@ use lib.Bits.{bitAnd, and-zero-l, and-block, and-high}
 use lib.Count.{trailingZeros, under, ones-step, trailing-of-zero}
 use lib.Pow.{shr-shr}
 use borrow.Author.Tests.{le-leb, lt-leb}
-use Rattle.coding.specs.Lists.{pick, first}
+use Rattle.coding.specs.Lists.{first}
 use Rattle.coding.specs.Word.{bit, weight}
 use Rattle.coding.proofs.WordLaws.{and-half, and-odd, bit-lt}
 use Rattle.coding.proofs.WeightLaws.{weight-zero}
@@ -63,17 +63,17 @@ lanes-and f g (p ∷ P) h =
     block a b = omega arith
 
 -- a lane below 32 has its highest bit exactly when it reaches 16
-high-bit : (x : ℕ) → x < 32 → bitAnd x 16 ≡ pick (leb 16 x) 16 0
+high-bit : (x : ℕ) → x < 32 → bitAnd x 16 ≡ cond (leb 16 x) 16 0
 high-bit x h = and-high x 1 4 ∙ go (decLe 16 x)
   where
-    go : Dec (16 ≤ x) → (x / 2 ^ 4 % 2 ^ 1) * 2 ^ 4 ≡ pick (leb 16 x) 16 0
+    go : Dec (16 ≤ x) → (x / 2 ^ 4 % 2 ^ 1) * 2 ^ 4 ≡ cond (leb 16 x) 16 0
     go (yes l) = let e : (x / 2 ^ 4 % 2 ^ 1) * 2 ^ 4 ≡ 16 = omega arith in e ∙ sym (simp (le-leb 16 x l) refl)
     go (no l) = let e : (x / 2 ^ 4 % 2 ^ 1) * 2 ^ 4 ≡ 0 = omega arith in e ∙ sym (simp (lt-leb 16 x (omega arith)) refl)
 
-pub lanes-high : (f : ℕ → ℕ) (P : List ℕ) → Each (λ p. f p < 32) P → bitAnd (lanes f P) (lanes (λ p. 16) P) ≡ lanes (λ p. pick (leb 16 (f p)) 16 0) P
+pub lanes-high : (f : ℕ → ℕ) (P : List ℕ) → Each (λ p. f p < 32) P → bitAnd (lanes f P) (lanes (λ p. 16) P) ≡ lanes (λ p. cond (leb 16 (f p)) 16 0) P
 lanes-high f P h =
     lanes-and f (λ p. 16) P (λ i l. (h i l, lit< tt))
-    ∙ lanes-same (λ p. bitAnd (f p) 16) (λ p. pick (leb 16 (f p)) 16 0) P (λ i l. high-bit (f (getD P i 0)) (h i l))
+    ∙ lanes-same (λ p. bitAnd (f p) 16) (λ p. cond (leb 16 (f p)) 16 0) P (λ i l. high-bit (f (getD P i 0)) (h i l))
 
 -- ---- the zeros below the lowest one
 
@@ -110,13 +110,13 @@ below-zero k r =
 
 -- the index of the lowest lane that holds 16
 pub first-lane : (t : ℕ → Bool) (P : List ℕ)
-    → trailingZeros (5 * length P + 4) (lanes (λ p. pick (t p) 16 0) P) / 5 ≡ first (λ i. t (getD P i 0)) (length P)
+    → trailingZeros (5 * length P + 4) (lanes (λ p. cond (t p) 16 0) P) / 5 ≡ first (λ i. t (getD P i 0)) (length P)
 first-lane t [] = nothing
   where
     nothing : trailingZeros 4 0 / 5 ≡ 0
     nothing = ap (λ (x : ℕ). x / 5) (trailing-of-zero 4)
 first-lane t (p ∷ P) =
-    ap (λ (k : ℕ). trailingZeros k (pick (t p) 16 0 + 32 * lanes (λ p. pick (t p) 16 0) P) / 5) width ∙ go (t p) (first-lane t P)
+    ap (λ (k : ℕ). trailingZeros k (cond (t p) 16 0 + 32 * lanes (λ p. cond (t p) 16 0) P) / 5) width ∙ go (t p) (first-lane t P)
   where
     width : 5 * suc (length P) + 4 ≡ suc (suc (suc (suc (suc (5 * length P + 4)))))
     width = omega arith
@@ -124,13 +124,13 @@ first-lane t (p ∷ P) =
     next : (x : ℕ) → (x + 5) / 5 ≡ suc (x / 5)
     next x = omega arith
 
-    go : (b : Bool) → trailingZeros (5 * length P + 4) (lanes (λ p. pick (t p) 16 0) P) / 5 ≡ first (λ i. t (getD P i 0)) (length P)
-        → trailingZeros (suc (suc (suc (suc (suc (5 * length P + 4)))))) (pick b 16 0 + 32 * lanes (λ p. pick (t p) 16 0) P) / 5
-        ≡ pick b 0 (suc (first (λ i. t (getD P i 0)) (length P)))
-    go true ih = ap (λ (x : ℕ). x / 5) (below-sixteen (5 * length P + 4) (lanes (λ p. pick (t p) 16 0) P))
+    go : (b : Bool) → trailingZeros (5 * length P + 4) (lanes (λ p. cond (t p) 16 0) P) / 5 ≡ first (λ i. t (getD P i 0)) (length P)
+        → trailingZeros (suc (suc (suc (suc (suc (5 * length P + 4)))))) (cond b 16 0 + 32 * lanes (λ p. cond (t p) 16 0) P) / 5
+        ≡ cond b 0 (suc (first (λ i. t (getD P i 0)) (length P)))
+    go true ih = ap (λ (x : ℕ). x / 5) (below-sixteen (5 * length P + 4) (lanes (λ p. cond (t p) 16 0) P))
     go false ih =
-        ap (λ (x : ℕ). x / 5) (below-zero (5 * length P + 4) (lanes (λ p. pick (t p) 16 0) P))
-        ∙ next (trailingZeros (5 * length P + 4) (lanes (λ p. pick (t p) 16 0) P)) ∙ ap suc ih
+        ap (λ (x : ℕ). x / 5) (below-zero (5 * length P + 4) (lanes (λ p. cond (t p) 16 0) P))
+        ∙ next (trailingZeros (5 * length P + 4) (lanes (λ p. cond (t p) 16 0) P)) ∙ ap suc ih
 
 -- ---- places in common
 

@@ -11,8 +11,7 @@ use Rattle.words.specs.Refusal.{unless, ifDone}
 use Rattle.words.specs.declared.answer.Refusal.the-variants.{WordOutside}
 use Rattle.words.specs.declared.answer.Answer.{Answer}
 use Rattle.words.specs.declared.answer.Answer.the-variants.{Done}
-use Rattle.outcomes.specs.Outcome.{wordIn, countIn}
-use Rattle.decoder.specs.Decoded.{decodedAs}
+use Rattle.outcomes.specs.Outcome.{wordIn, countIn, decodedAs}
 use Rattle.outcomes.specs.declared.outcome.Reading.the-variants.{Within}
 use Rattle.outcomes.specs.declared.outcome.Outcome.{Outcome}
 use Rattle.outcomes.specs.declared.outcome.Outcome.the-variants.{Clean}

@@ -7,7 +7,7 @@ use crate::rows::syndrome;
 use outcomes::outcome::Outcome;
 use outcomes::outcome::Reading;
 use outcomes::outcome::count_in;
-use outcomes::outcome::judged;
+use outcomes::outcome::outcome_of;
 use outcomes::outcome::word_in;
 use words::answer::Answer;
 use words::answer::Refusal;
@@ -73,7 +73,7 @@ fn outcome(received: u32) -> Outcome
     if s == 0 {
         return Outcome::Clean(received);
     }
-    judged(Reading::Within(RADIUS), received, error_pattern(s))
+    outcome_of(Reading::Within(RADIUS), received, error_pattern(s))
 }
 
 pub fn decode(received: u32) -> Correction

@@ -6,21 +6,21 @@ use words::word::fits;
 ghost use Rattle.golay.specs.Encoded.{Encoded};
 
 // The answer to a message of 12 places and its codeword; on a refusal the codeword is 0.
-pub struct Codeword {
+pub struct Encoding {
     pub answer: Answer,
     pub word: u32,
 }
 
-pub fn encode(message: u32) -> Codeword
+pub fn encode(message: u32) -> Encoding
     ensures { λ r. ⌜ Encoded message r ⌝ }
 {
     if !fits(message, 12) {
-        return Codeword {
+        return Encoding {
             answer: Answer::Refused(Refusal::WordOutside(0)),
             word: 0,
         };
     }
-    Codeword {
+    Encoding {
         answer: Answer::Done,
         word: (message << 12) ^ check_sum(message),
     }

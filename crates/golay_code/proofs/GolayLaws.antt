@@ -3,14 +3,14 @@
 use mathlib.Core.Path.{_≡_, refl, sym, ap, _∙_}
 use mathlib.Core.Logic.{_≢_}
 use mathlib.Core.List.{List, [], _∷_, map}
-use mathlib.Core.Bool.{Bool, true, false}
+use mathlib.Core.Bool.{Bool, true, false, cond, _&&_}
 use Prim.Native.Nat.{ℕ, _^_, _≤_, _<_}
 use native.Mathlib.Nat.{le-antisymm, suc-ne-zero}
 use lib.Dec.{T, eqb, leb, ltb, leb→le, ltb→lt, eqb→eq, lit<, lit≤}
 use lib.ListN.{length, getD}
 use lib.Bits.{xor-zero-r}
 use lib.Count.{onesIn}
-use Rattle.coding.specs.Lists.{pick, both, tabulate}
+use Rattle.coding.specs.Lists.{tabulate}
 use Rattle.coding.specs.Word.{weight}
 use Rattle.coding.specs.Matrix.{encode, Inside}
 use Rattle.coding.specs.Weight.{dmin, MinimumDistance}
@@ -21,7 +21,7 @@ use Rattle.coding.proofs.MatrixLaws.{encode-xor, encode-zero}
 use Rattle.coding.proofs.LinearLaws.{encode-map, identity-rows}
 use Rattle.coding.proofs.SystematicLaws.{systematic-length, systematic-inside, systematic-independent}
 use Rattle.coding.proofs.DistanceLaws.{dmin-le, dmin-hit, minimum-distance}
-use Rattle.linear.specs.Accepted.{Accepted}
+use Rattle.words.specs.Accepted.{Accepted}
 use Rattle.golay_code.specs.Golay.{golayChecks, golayRows}
 
 -- the rows of P as numbers
@@ -63,7 +63,7 @@ golay-accepted = record {
 -- a word of 24 places that is 0 or weighs 8 or more
 heavy : ℕ → Bool
 unfolding onesIn
-heavy w = both (ltb w (2 ^ 24)) (pick (eqb w 0) true (leb 8 (onesIn 24 w)))
+heavy w = ltb w (2 ^ 24) && cond (eqb w 0) true (leb 8 (onesIn 24 w))
 
 all-heavy : T (everySum heavy (systematic 12 checkWords) 0)
 unfolding heavy checkWords
@@ -73,7 +73,7 @@ heavy-means : (w : ℕ) → T (heavy w) → w ≢ 0 → 8 ≤ weight w
 unfolding heavy
 heavy-means w t ne = go (ltb w (2 ^ 24)) refl (eqb w 0) refl t
   where
-    go : (a : Bool) → ltb w (2 ^ 24) ≡ a → (b : Bool) → eqb w 0 ≡ b → T (both a (pick b true (leb 8 (onesIn 24 w)))) → 8 ≤ weight w
+    go : (a : Bool) → ltb w (2 ^ 24) ≡ a → (b : Bool) → eqb w 0 ≡ b → T (a && cond b true (leb 8 (onesIn 24 w))) → 8 ≤ weight w
     go false e b q t = absurd t
     go true e true q t = absurd (ne (eqb→eq w 0 (rw q tt)))
     go true e false q t = rw (weight-in 24 w (ltb→lt w (2 ^ 24) (rw e tt))) at (leb→le 8 (onesIn 24 w) t)

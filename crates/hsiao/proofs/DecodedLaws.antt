@@ -3,14 +3,13 @@
 use mathlib.Core.Path.{_≡_, refl, sym, ap, _∙_}
 use mathlib.Core.Logic.{_↔_, _⊎_, inl, inr}
 use mathlib.Core.List.{List}
-use mathlib.Core.Bool.{Bool, true, false}
+use mathlib.Core.Bool.{Bool, true, false, cond}
 use Prim.Native.Nat.{ℕ, _^_, _≤_, _<_}
 use native.Mathlib.Decide.{decLe}
 use native.Mathlib.Omega.{arith}
 use lib.Dec.{eqb, ltb, lit≤}
 use lib.ListN.{length, getD}
 use borrow.Author.Tests.{eqb-true, eqb-false, ltb-true, ltb-false, eq-eqb}
-use Rattle.coding.specs.Lists.{pick}
 use Rattle.coding.specs.Radius.{RadiusRules}
 use Rattle.coding.specs.Columns.{SplitWord, splitDistance, units, splitSyndrome, columnPlace, SplitPlaces, SplitCodeword, OddColumns}
 use Rattle.coding.proofs.SearchLaws.{first-hit, first-upto}
@@ -65,7 +64,7 @@ module _ (c : ℕ) (cols : List ℕ) (K : OddColumns c cols) (w : Word) (P : Spl
       none e₀ e₁ e₂ (inr (inr (i, h, z))) = absurd (omega (arith, ltb-false (columnPlace cols s₀) (length cols) e₂, place-upto cols s₀ i h z))
 
       go : (b₀ b₁ b₂ : Bool) → eqb s₀ 0 ≡ b₀ → ltb (columnPlace (units c) s₀) c ≡ b₁ → ltb (columnPlace cols s₀) (length cols) ≡ b₂
-          → Found (pick b₀ (Clean w) (pick b₁ (Mended (withCheck w (columnPlace (units c) s₀)) 1) (pick b₂ (Mended (withData w (columnPlace cols s₀)) 1) Far)))
+          → Found (cond b₀ (Clean w) (cond b₁ (Mended (withCheck w (columnPlace (units c) s₀)) 1) (cond b₂ (Mended (withData w (columnPlace cols s₀)) 1) Far)))
       go true b₁ b₂ e₀ e₁ e₂ =
           let d = split-distance-self (split w) in
           inr (
@@ -110,7 +109,7 @@ module _ (c : ℕ) (cols : List ℕ) (w : Word) (s : ℕ) where
       mended : (v : Word) → Told (Mended v 1)
       mended v = (clash (Mended v 1) 1 0 refl (λ z. absurd (omega (arith, z))) (Clean w) refl, clash (Mended v 1) 1 255 refl (λ z. absurd (omega (arith, z))) Far refl)
 
-      go : (b₀ b₁ b₂ : Bool) → Told (pick b₀ (Clean w) (pick b₁ (Mended (withCheck w (columnPlace (units c) s)) 1) (pick b₂ (Mended (withData w (columnPlace cols s)) 1) Far)))
+      go : (b₀ b₁ b₂ : Bool) → Told (cond b₀ (Clean w) (cond b₁ (Mended (withCheck w (columnPlace (units c) s)) 1) (cond b₂ (Mended (withData w (columnPlace cols s)) 1) Far)))
       go true b₁ b₂ = (((λ _. refl), λ _. refl), clash (Clean w) 0 255 refl (λ z. absurd (omega (arith, z))) Far refl)
       go false true b₂ = mended (withCheck w (columnPlace (units c) s))
       go false false true = mended (withData w (columnPlace cols s))

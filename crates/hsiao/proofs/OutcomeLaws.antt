@@ -2,14 +2,13 @@
 -- for every byte. Assumes nothing.
 use mathlib.Core.Path.{_≡_, refl, sym, ap, _∙_}
 use mathlib.Core.Logic.{_≢_}
-use mathlib.Core.Bool.{Bool, true, false}
+use mathlib.Core.Bool.{Bool, true, false, cond, _&&_}
 use Prim.Native.Nat.{ℕ, zero, suc, _-_, _^_, _<_}
 use native.Mathlib.Decide.{ℕ-discrete}
 use native.Mathlib.Omega.{arith}
 use lib.Dec.{T, eqb, ltb, eqb→eq}
 use lib.Bits.{bitAnd}
 use borrow.Author.Tests.{eq-eqb, ne-eqb, ltb-true}
-use Rattle.coding.specs.Lists.{pick, both}
 use Rattle.coding.specs.Word.{_⊕_}
 use Rattle.coding.specs.Columns.{units, columnPlace}
 use Rattle.hsiao.specs.Table.{columns}
@@ -21,13 +20,13 @@ use Rattle.hsiao.proofs.TableLaws.{columns-length}
 -- a test of every number below m
 abbrev below : (ℕ → Bool) → ℕ → Bool
 below f zero = true
-below f (suc m) = both (f m) (below f m)
+below f (suc m) = f m && below f m
 
 below-at : (f : ℕ → Bool) (m : ℕ) → T (below f m) → (i : ℕ) → i < m → T (f i)
 below-at f zero t i h = absurd (omega arith)
 below-at f (suc m) t i h = go (f m) refl (ℕ-discrete i m) (λ u l. below-at f m u i l) t
   where
-    go : (b : Bool) → f m ≡ b → Dec (i ≡ m) → (T (below f m) → i < m → T (f i)) → T (both b (below f m)) → T (f i)
+    go : (b : Bool) → f m ≡ b → Dec (i ≡ m) → (T (below f m) → i < m → T (f i)) → T (b && below f m) → T (f i)
     go true e (yes z) g t = rw (ap f z ∙ e) tt
     go true e (no ne) g t = g t (omega arith)
     go false e d g t = absurd t
@@ -39,33 +38,33 @@ place s = columnPlace (units 8) s
 -- s is a single bit, that of the place found, exactly when s and s - 1 share none
 single : ℕ → Bool
 single zero = true
-single (suc t) = pick (eqb (bitAnd (suc t) (suc t - 1)) 0) (both (ltb (place (suc t)) 8) (eqb (2 ^ place (suc t)) (suc t))) (pick (ltb (place (suc t)) 8) false true)
+single (suc t) = cond (eqb (bitAnd (suc t) (suc t - 1)) 0) (ltb (place (suc t)) 8 && eqb (2 ^ place (suc t)) (suc t)) (cond (ltb (place (suc t)) 8) false true)
 
 single-all : T (below single 256)
 unfolding single
 single-all = tt
 
 module _ (s : ℕ) (h : s < 256) (ne : s ≢ 0) where
-  tested : T (pick (eqb (bitAnd s (s - 1)) 0) (both (ltb (place s) 8) (eqb (2 ^ place s) s)) (pick (ltb (place s) 8) false true))
+  tested : T (cond (eqb (bitAnd s (s - 1)) 0) (ltb (place s) 8 && eqb (2 ^ place s) s) (cond (ltb (place s) 8) false true))
   unfolding single
   tested = go s ne (below-at single 256 single-all s h)
     where
       go : (s : ℕ) → s ≢ 0 → T (single s)
-          → T (pick (eqb (bitAnd s (s - 1)) 0) (both (ltb (place s) 8) (eqb (2 ^ place s) s)) (pick (ltb (place s) 8) false true))
+          → T (cond (eqb (bitAnd s (s - 1)) 0) (ltb (place s) 8 && eqb (2 ^ place s) s) (cond (ltb (place s) 8) false true))
       go zero k t = absurd (k refl)
       go (suc t) k u = u
 
   unit-yes : bitAnd s (s - 1) ≡ 0 → (ltb (place s) 8 ≡ true) × (2 ^ place s ≡ s)
   unit-yes z = go (ltb (place s) 8) refl (rw (eq-eqb (bitAnd s (s - 1)) 0 z) at tested)
     where
-      go : (b : Bool) → ltb (place s) 8 ≡ b → T (both b (eqb (2 ^ place s) s)) → (b ≡ true) × (2 ^ place s ≡ s)
+      go : (b : Bool) → ltb (place s) 8 ≡ b → T (b && eqb (2 ^ place s) s) → (b ≡ true) × (2 ^ place s ≡ s)
       go true e t = (refl, eqb→eq (2 ^ place s) s t)
       go false e t = absurd t
 
   unit-no : bitAnd s (s - 1) ≢ 0 → ltb (place s) 8 ≡ false
   unit-no k = go (ltb (place s) 8) (rw (ne-eqb (bitAnd s (s - 1)) 0 k) at tested)
     where
-      go : (b : Bool) → T (pick b false true) → b ≡ false
+      go : (b : Bool) → T (cond b false true) → b ≡ false
       go true t = absurd t
       go false t = refl
 
@@ -75,12 +74,12 @@ module _ (s : ℕ) (h : s < 256) (ne : s ≢ 0) where
       let (b, e) = unit-yes z in
       rw (ne-eqb s 0 ne, b) (ap (λ (x : ℕ). Mended (record { check = w .check ⊕ x; «data» = w .«data» }) 1) (sym e))
 
-  module _ (w : Word) (n : ℕ) (k : bitAnd s (s - 1) ≢ 0) (is : n ≡ pick (ltb (columnPlace columns s) 64) (suc (columnPlace columns s)) 0) where
+  module _ (w : Word) (n : ℕ) (k : bitAnd s (s - 1) ≢ 0) (is : n ≡ cond (ltb (columnPlace columns s) 64) (suc (columnPlace columns s)) 0) where
     pub outcome-far : n ≡ 0 → Far ≡ outcomeAt 8 columns w s
     unfolding columns
     outcome-far z = rw (ne-eqb s 0 ne, unit-no k, columns-length) (go (ltb (columnPlace columns s) 64) (sym is ∙ z))
       where
-        go : (b : Bool) → pick b (suc (columnPlace columns s)) 0 ≡ 0 → Far ≡ pick b (Mended (withData w (columnPlace columns s)) 1) Far
+        go : (b : Bool) → cond b (suc (columnPlace columns s)) 0 ≡ 0 → Far ≡ cond b (Mended (withData w (columnPlace columns s)) 1) Far
         go true e = absurd (omega (arith, e))
         go false e = refl
 
@@ -89,7 +88,7 @@ module _ (s : ℕ) (h : s < 256) (ne : s ≢ 0) where
     unfolding columns
     outcome-data z = go (ltb (columnPlace columns s) 64) refl (is)
       where
-        go : (b : Bool) → ltb (columnPlace columns s) 64 ≡ b → n ≡ pick b (suc (columnPlace columns s)) 0
+        go : (b : Bool) → ltb (columnPlace columns s) 64 ≡ b → n ≡ cond b (suc (columnPlace columns s)) 0
             → (n - 1 < 64) × (Mended (withData w (n - 1)) 1 ≡ outcomeAt 8 columns w s)
         go false e f = absurd (z f)
         go true e f =

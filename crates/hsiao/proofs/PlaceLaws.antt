@@ -1,6 +1,6 @@
 -- Laws of the search for a place: one more than the first index below i that passes, or 0 where none does. Assumes nothing.
 use mathlib.Core.Path.{_≡_, refl, sym, ap, _∙_}
-use mathlib.Core.Bool.{Bool, true, false}
+use mathlib.Core.Bool.{Bool, true, false, cond}
 use Prim.Native.Nat.{ℕ, suc, _+_, _≤_, _<_}
 use native.Mathlib.Nat.{le-refl}
 use native.Mathlib.Numerals.{add-one}
@@ -8,11 +8,11 @@ use native.Mathlib.Decide.{decLe, ℕ-discrete}
 use native.Mathlib.Omega.{arith}
 use lib.Dec.{ltb}
 use borrow.Author.Tests.{lt-ltb, le-ltb}
-use Rattle.coding.specs.Lists.{pick, first}
+use Rattle.coding.specs.Lists.{first}
 use Rattle.coding.proofs.SearchLaws.{first-le, first-hit, first-before, first-is}
 
 abbrev pub numberBelow : (ℕ → Bool) → ℕ → ℕ
-numberBelow p i = pick (ltb (first p i) i) (suc (first p i)) 0
+numberBelow p i = cond (ltb (first p i) i) (suc (first p i)) 0
 
 number-is : (p : ℕ → Bool) (i j : ℕ) → first p i ≡ j → j < i → numberBelow p i ≡ suc j
 number-is p i j e h = rw (e, lt-ltb j i h)

@@ -2,4 +2,4 @@ pub mod Table
 pub mod Outcome
 pub mod Encoded
 pub mod Decoded
-pub mod DataRead
+pub mod MessageRead

@@ -1,9 +1,9 @@
 -- 01, parts 5 and 7: how one word ends, and its answer and count.
 use mathlib.Core.List.{List}
+use mathlib.Core.Bool.{cond}
 use Prim.Native.Nat.{ℕ, _^_}
 use lib.Dec.{eqb, ltb}
 use lib.ListN.{length}
-use Rattle.coding.specs.Lists.{pick}
 use Rattle.coding.specs.Word.{_⊕_}
 use Rattle.coding.specs.Columns.{units, splitSyndrome, columnPlace}
 use Rattle.hsiao.specs.Table.{columns, split}
@@ -22,9 +22,9 @@ withData w i = record { check = w .check; «data» = w .«data» ⊕ 2 ^ i }
 -- any other is far
 abbrev pub outcomeAt : ℕ → List ℕ → Word → ℕ → Outcome
 outcomeAt c cols w s =
-    pick (eqb s 0) (Clean w)
-    (pick (ltb (columnPlace (units c) s) c) (Mended (withCheck w (columnPlace (units c) s)) 1)
-    (pick (ltb (columnPlace cols s) (length cols)) (Mended (withData w (columnPlace cols s)) 1) Far))
+    cond (eqb s 0) (Clean w)
+    (cond (ltb (columnPlace (units c) s) c) (Mended (withCheck w (columnPlace (units c) s)) 1)
+    (cond (ltb (columnPlace cols s) (length cols)) (Mended (withData w (columnPlace cols s)) 1) Far))
 
 abbrev pub outcomeBy : ℕ → List ℕ → Word → Outcome
 outcomeBy c cols w = outcomeAt c cols w (splitSyndrome c cols (split w))

@@ -1,8 +1,8 @@
 // The columns of the data places, and the data place of a column.
 ghost use mathlib.Core.Path.{_≡_};
+ghost use mathlib.Core.Bool.{cond};
 ghost use Prim.Native.Nat.{suc};
 ghost use lib.Dec.{ltb};
-ghost use Rattle.coding.specs.Lists.{pick};
 ghost use Rattle.coding.specs.Columns.{columnPlace};
 ghost use Rattle.hsiao.specs.Table.{columns};
 
@@ -77,7 +77,7 @@ const COLUMNS: [u8; 64] = [
 // One more than the data place whose column is s, or 0 where no column is s. Each entry adds its number where it is s, so that the
 // compiler compares sixteen at a time.
 pub(crate) fn numbered(s: u8) -> u8
-    ensures { λ r. ⌜ r ≡ pick (ltb (columnPlace columns s) 64) (suc (columnPlace columns s)) 0 ⌝ }
+    ensures { λ r. ⌜ r ≡ cond (ltb (columnPlace columns s) 64) (suc (columnPlace columns s)) 0 ⌝ }
 {
     let table = COLUMNS;
     let mut n: u8 = 0;

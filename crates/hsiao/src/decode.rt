@@ -1,6 +1,6 @@
 // Decode at radius 1, one word at a time. No word is refused.
 use crate::outcomes::count_in;
-use crate::outcomes::judged;
+use crate::outcomes::outcome_of;
 use crate::outcomes::word_in;
 use crate::word::Word;
 ghost use Rattle.hsiao.specs.Decoded.{Decoded};
@@ -14,7 +14,7 @@ pub struct Decoding {
 pub fn decode(w: Word) -> Decoding
     ensures { λ r. ⌜ Decoded w r ⌝ }
 {
-    let o = judged(w);
+    let o = outcome_of(w);
     let word = word_in(o, w);
     let count = count_in(o);
     Decoding { word, count }

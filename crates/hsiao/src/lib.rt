@@ -3,6 +3,6 @@ pub mod columns; // the table of the data columns
 pub mod decode; // Decode at radius 1
 pub mod encode; // Encode
 pub mod outcomes; // how one word ends
-pub mod read; // Message: the data of a codeword
+pub mod message; // Message: the data of a codeword
 pub mod syndrome; // syndromes
 pub mod word; // words

@@ -15,7 +15,7 @@ pub enum Outcome {
 }
 
 // Syndrome 0 is clean, a syndrome equal to a column mends that place, any other is far.
-pub fn judged(w: Word) -> Outcome
+pub fn outcome_of(w: Word) -> Outcome
     ensures { λ o. ⌜ (o ≡ outcomeOf w) × SplitPlaces 8 columns (split w) ⌝ }
 {
     let s = syndrome(w);

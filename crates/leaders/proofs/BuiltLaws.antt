@@ -1,53 +1,29 @@
 -- Laws of the list that is built for an accepted matrix: every syndrome has a leader, and the list is these. Assumes nothing.
 use mathlib.Core.Path.{_≡_, sym, ap, _∙_}
 use mathlib.Core.List.{List}
-use Prim.Native.Nat.{ℕ, suc, _-_, _^_, _≤_, _<_}
+use Prim.Native.Nat.{ℕ, suc, _-_, _^_, _<_}
 use native.Mathlib.Nat.{lt-of-lt-of-le}
 use native.Mathlib.Omega.{arith}
 use lib.ListN.{length, getD, length-replicate}
 use lib.Seq.{ext-getD}
 use lib.Pow.{pow-mono}
 use Rattle.coding.specs.Lists.{padded}
-use Rattle.coding.specs.Word.{weight}
 use Rattle.coding.specs.Matrix.{encode}
-use Rattle.coding.specs.Check.{checks, frees, syndrome}
-use Rattle.coding.specs.Leader.{syndromeOf, noLeader, IsLeader, leaderOf}
+use Rattle.coding.specs.Check.{checks, frees}
+use Rattle.coding.specs.Leader.{syndromeOf, noLeader, leaderOf}
 use Rattle.coding.specs.Order.{order, fills, blanks}
 use Rattle.coding.proofs.CountLaws.{length-tabulate, getD-tabulate}
-use Rattle.coding.proofs.WidthLaws.{syndrome-zeros}
-use Rattle.coding.proofs.DecodeLaws.{leader-is, leader-light, syndromeOf-lt}
 use Rattle.coding.proofs.BuildLaws.{all-more, built, fills-length, fills-same, order-below}
 use Rattle.words.specs.Limits.{maxChecks}
-use Rattle.linear.specs.Accepted.{Accepted}
-use Rattle.linear.proofs.TableLaws.{frees-are}
+use Rattle.words.specs.Accepted.{Accepted}
+use Rattle.words.proofs.CodeLaws.{frees-are, checks-pad}
 use Rattle.leaders.specs.Built.{columnsOf, builtList}
 use Rattle.leaders.specs.Leaders.{leadersList}
 use Rattle.leaders.proofs.TryLaws.{columns-encode}
 
 module _ (n k : ℕ) (rows : List ℕ) (A : Accepted n k rows) where
-  c-is : length (frees n rows) ≡ n - k
-  c-is = omega (arith, frees-are n k rows A)
-
-  pub checks-pad : (w : ℕ) → syndrome (padded maxChecks (checks n rows)) w ≡ syndromeOf n rows w
-  checks-pad w = syndrome-zeros (checks n rows) (maxChecks - length (checks n rows)) w
-
-  pub syndrome-below : (w : ℕ) → syndromeOf n rows w < 2 ^ (n - k)
-  syndrome-below w = rw c-is at (syndromeOf-lt n rows (A .inside) w)
-
-  -- every syndrome has an entry
-  pub checks-below : (w : ℕ) → syndrome (padded maxChecks (checks n rows)) w < 2 ^ (n - k)
-  checks-below w = rw (checks-pad w) (syndrome-below w)
-
-  pub light : (s : ℕ) → s < 2 ^ (n - k) → weight (leaderOf n rows s) ≤ n - k
-  light s h = rw c-is at (leader-light n rows (A .inside) s (rw c-is h))
-
-  -- so that no count is 255
-  pub leader-weight : (w : ℕ) → weight (leaderOf n rows (syndromeOf n rows w)) ≤ n - k
-  leader-weight w = light (syndromeOf n rows w) (syndrome-below w)
-
-  -- every syndrome has a leader
-  pub leader-at : (s : ℕ) → s < 2 ^ (n - k) → IsLeader n rows s (leaderOf n rows s)
-  leader-at s h = leader-is n rows (A .inside) s (rw c-is h)
+  checks-are : length (frees n rows) ≡ n - k
+  checks-are = omega (arith, frees-are n k rows A)
 
   -- ---- the build
 
@@ -61,7 +37,7 @@ module _ (n k : ℕ) (rows : List ℕ) (A : Accepted n k rows) where
       same =
           fills-same (encode (columnsOf (padded maxChecks (checks n rows)))) (syndromeOf n rows) (order n (suc (n - k))) (blanks (2 ^ (n - k)))
           (all-more (λ w. w < 2 ^ n) (λ w. encode (columnsOf (padded maxChecks (checks n rows))) w ≡ syndromeOf n rows w)
-          (λ w l. columns-encode (padded maxChecks (checks n rows)) w (lt-of-lt-of-le l (pow-mono {i = n} {j = 32} (omega (arith, A .range .places)))) ∙ checks-pad w)
+          (λ w l. columns-encode (padded maxChecks (checks n rows)) w (lt-of-lt-of-le l (pow-mono {i = n} {j = 32} (omega (arith, A .range .places)))) ∙ checks-pad n k rows A w)
           (order n (suc (n - k))) (order-below n (suc (n - k))))
 
       long : length (builtList (padded maxChecks (checks n rows)) n (n - k)) ≡ 2 ^ (n - k)
@@ -70,5 +46,5 @@ module _ (n k : ℕ) (rows : List ℕ) (A : Accepted n k rows) where
       entry : (s : ℕ) → s < 2 ^ (n - k) → getD (builtList (padded maxChecks (checks n rows)) n (n - k)) s 0 ≡ getD (leadersList n k rows) s 0
       entry s l =
           ap (λ (x : List ℕ). getD x s 0) same
-          ∙ (rw c-is at (built n rows (A .inside) (rw c-is (omega (arith, A .range .checks))) s (rw c-is l)))
+          ∙ (rw checks-are at (built n rows (A .inside) (rw checks-are (omega (arith, A .range .checks))) s (rw checks-are l)))
           ∙ sym (getD-tabulate (leaderOf n rows) (2 ^ (n - k)) s l)

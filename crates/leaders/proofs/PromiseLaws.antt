@@ -5,7 +5,7 @@ use Prim.Native.Nat.{ℕ, _-_, _*_, _%_, _^_, _≤_, _<_}
 use native.Mathlib.Omega.{arith}
 use lib.ListN.{length, getD, drop, List·getD-append}
 use borrow.Author.Tests.{le-leb, lt-leb}
-use Rattle.coding.specs.Lists.{blank}
+use Rattle.coding.specs.Lists.{zeros}
 use Rattle.coding.specs.Leader.{leaderOf}
 use Rattle.coding.proofs.CountLaws.{getD-tabulate}
 use Rattle.coding.proofs.MachineLaws.{shl-one}
@@ -15,19 +15,20 @@ use Rattle.words.specs.declared.answer.Refusal.the-variants.{ShortWork}
 use Rattle.words.specs.declared.answer.Answer.the-variants.{Done, Refused}
 use Rattle.words.proofs.ShapeLaws.{refused-done}
 use Rattle.words.proofs.ListLaws.{kept, filled}
-use Rattle.linear.specs.Accepted.{matrixAnswer, Accepted}
-use Rattle.linear.proofs.AcceptLaws.{in-accepted}
-use Rattle.checks.specs.Checks.{ParityChecks}
+use Rattle.words.specs.Accepted.{matrixAnswer, Accepted}
+use Rattle.words.proofs.AcceptedLaws.{in-accepted}
+use Rattle.parity.specs.ParityChecks.{ParityChecksOf}
 use Rattle.leaders.specs.Leaders.{leadersAnswer, leadersList, LeadersOf}
 use Rattle.leaders.specs.declared.build.Leaders.{Leaders}
-use Rattle.leaders.proofs.BuiltLaws.{leader-at, light, leaders-long}
+use Rattle.words.proofs.CodeLaws.{leader-at, light}
+use Rattle.leaders.proofs.BuiltLaws.{leaders-long}
 
 module _ (n k : ℕ) (rows : List ℕ) where
   pub matrix-refuses : (room : ℕ) (c : Refusal) → matrixAnswer n k rows ≡ Refused c → Refused c ≡ leadersAnswer n k rows room
   matrix-refuses room c e = rw e refl
 
   -- a refusal writes nothing
-  pub leaders-refused : (before : List ℕ) (r : Leaders) (c : Refusal) → r .answer ≡ Refused c → r .checks ≡ blank maxChecks
+  pub leaders-refused : (before : List ℕ) (r : Leaders) (c : Refusal) → r .answer ≡ Refused c → r .checks ≡ zeros maxChecks
       → Refused c ≡ leadersAnswer n k rows (length before) → LeadersOf n k rows before r before
   leaders-refused before r c e z a = record {
     answer = e ∙ a;
@@ -50,7 +51,7 @@ module _ (n k : ℕ) (rows : List ℕ) where
 
     -- a success writes the leaders
     pub leaders-written : (before : List ℕ) → 2 ^ (n - k) ≤ length before → (r : Leaders) → r .answer ≡ Done
-        → ParityChecks n k rows (record { answer = Done; rows = r .checks }) → (list : List ℕ) → list ≡ leadersList n k rows → LeadersOf n k rows before r (list ++ drop (2 ^ (n - k)) before)
+        → ParityChecksOf n k rows (record { answer = Done; rows = r .checks }) → (list : List ℕ) → list ≡ leadersList n k rows → LeadersOf n k rows before r (list ++ drop (2 ^ (n - k)) before)
     leaders-written before h r d c list e = record {
       answer = d ∙ sym (leaders-pass (length before) h);
       checks = λ _. rw d c;

@@ -4,7 +4,7 @@ use mathlib.Core.List.{List}
 use Prim.Native.Nat.{ℕ, _-_, _^_, _≤_, _<_}
 use lib.Dec.{leb}
 use lib.ListN.{length, getD}
-use Rattle.coding.specs.Lists.{blank, tabulate}
+use Rattle.coding.specs.Lists.{zeros, tabulate}
 use Rattle.coding.specs.Word.{weight}
 use Rattle.coding.specs.Leader.{IsLeader, leaderOf}
 use Rattle.words.specs.Limits.{maxChecks}
@@ -13,8 +13,8 @@ use Rattle.words.specs.declared.answer.Refusal.{Refusal}
 use Rattle.words.specs.declared.answer.Refusal.the-variants.{ShortWork}
 use Rattle.words.specs.declared.answer.Answer.{Answer}
 use Rattle.words.specs.declared.answer.Answer.the-variants.{Done, Refused}
-use Rattle.linear.specs.Accepted.{matrixAnswer}
-use Rattle.checks.specs.Checks.{ParityChecks}
+use Rattle.words.specs.Accepted.{matrixAnswer}
+use Rattle.parity.specs.ParityChecks.{ParityChecksOf}
 use Rattle.leaders.specs.declared.build.Leaders.{Leaders}
 
 -- cause 9: a working list shorter than 2 ^ (n - k)
@@ -34,8 +34,8 @@ leadersList n k rows = tabulate (leaderOf n rows) (2 ^ (n - k))
 -- every slot, is as it was
 pub record LeadersOf (n k : ℕ) (rows before : List ℕ) (r : Leaders) (after : List ℕ) : Type 0 where
   pub answer : r .answer ≡ leadersAnswer n k rows (length before)
-  pub checks : r .answer ≡ Done → ParityChecks n k rows (record { answer = r .answer; rows = r .checks })
-  pub no-checks : (c : Refusal) → r .answer ≡ Refused c → r .checks ≡ blank maxChecks
+  pub checks : r .answer ≡ Done → ParityChecksOf n k rows (record { answer = r .answer; rows = r .checks })
+  pub no-checks : (c : Refusal) → r .answer ≡ Refused c → r .checks ≡ zeros maxChecks
   pub list : after ≡ onDone (r .answer) (leadersList n k rows) before
   pub leader : r .answer ≡ Done → (s : ℕ) → s < 2 ^ (n - k) → IsLeader n rows s (getD after s 0)
   pub light : r .answer ≡ Done → (s : ℕ) → s < 2 ^ (n - k) → weight (getD after s 0) ≤ n - k

@@ -1,7 +1,7 @@
 // Part 4: the leaders. The words are tried by rising weight, of equal weight by rising number, with the syndrome kept along by one
 // column a step; a word takes the entry of its syndrome where that is blank, and the build ends when none is.
-use checks::check::parity_checks;
-use checks::check::syndrome;
+use parity::check::parity_checks;
+use parity::check::syndrome;
 use words::answer::Answer;
 use words::answer::Refusal;
 use words::limits::MAX_CHECKS;
@@ -9,7 +9,7 @@ use words::limits::WIDTH;
 ghost use mathlib.Core.Path.{_≡_};
 ghost use Prim.Native.Nat.{ℕ, suc, _+_, _<_, _≤_, _^_};
 ghost use lib.ListN.{length};
-ghost use Rattle.coding.specs.Lists.{blank};
+ghost use Rattle.coding.specs.Lists.{zeros};
 ghost use Rattle.coding.specs.Matrix.{encode};
 ghost use Rattle.coding.specs.Check.{syndrome};
 ghost use Rattle.coding.specs.Order.{words, order, fills, blanks};
@@ -179,7 +179,7 @@ pub struct Leaders {
 }
 
 fn refused(answer: Answer) -> Leaders
-    ensures { λ r. ⌜ (r .answer ≡ answer) × (r .checks ≡ blank maxChecks) ⌝ }
+    ensures { λ r. ⌜ (r .answer ≡ answer) × (r .checks ≡ zeros maxChecks) ⌝ }
 {
     Leaders {
         answer,

@@ -1,3 +1,2 @@
-pub mod AcceptLaws
 mod PackLaws
 pub mod TableLaws

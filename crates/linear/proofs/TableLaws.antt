@@ -2,56 +2,36 @@
 -- those of the definitions in n places. Assumes nothing.
 use mathlib.Core.Path.{_≡_, sym, ap, _∙_}
 use mathlib.Core.List.{List, _++_, map}
-use Prim.Native.Nat.{ℕ, _+_, _-_, _^_, _≤_, _<_}
+use Prim.Native.Nat.{ℕ, _+_, _-_, _≤_, _<_}
 use native.Mathlib.Omega.{arith}
 use lib.ListN.{length, getD, take, length-map}
 use lib.Seq.{take-at, ext-getD}
-use Rattle.coding.specs.Lists.{blank, padded}
-use Rattle.coding.specs.Matrix.{encode, Codeword, messageOf, IsMessage}
-use Rattle.coding.specs.Reduced.{reduce, rowsOf, freesFrom, ReducedForm, reducedRows, pivots, ByPivot, Traced}
+use Rattle.coding.specs.Lists.{zeros, padded}
+use Rattle.coding.specs.Matrix.{messageOf}
+use Rattle.coding.specs.Reduced.{reduce, rowsOf, ReducedForm, reducedRows, pivots, ByPivot, Traced}
 use Rattle.coding.proofs.ListLaws.{getD-map}
 use Rattle.coding.proofs.ReduceLaws.{whole}
-use Rattle.coding.proofs.EliminateLaws.{check-count}
-use Rattle.coding.proofs.CompactLaws.{rows-count}
 use Rattle.coding.proofs.EchelonLaws.{by-pivot, reducedRows-form}
 use Rattle.coding.proofs.UniqueLaws.{reducedForm-unique}
 use Rattle.coding.proofs.WidthLaws.{inside-wide, reduce-wide, rows-zeros}
-use Rattle.coding.proofs.TraceLaws.{Trace, traced-at, trace-message, trace-is, message-back}
+use Rattle.coding.proofs.TraceLaws.{traced-at, trace-message}
 use Rattle.words.specs.Limits.{maxRows}
 use Rattle.words.specs.Refusal.{ifDone}
 use Rattle.words.specs.declared.answer.Refusal.{Refusal}
 use Rattle.words.specs.declared.answer.Answer.{Answer}
 use Rattle.words.specs.declared.answer.Answer.the-variants.{Done, Refused}
 use Rattle.words.proofs.ShapeLaws.{refused-done}
-use Rattle.linear.specs.Accepted.{matrixAnswer, Accepted}
-use Rattle.linear.specs.ReducedRows.{ReducedRows}
+use Rattle.words.specs.Accepted.{matrixAnswer, Accepted}
+use Rattle.linear.specs.ReducedRows.{ReducedRowsOf}
 use Rattle.linear.specs.Reduction.{MessagesByPivot, ReductionOf}
 use Rattle.linear.specs.declared.reduce.Reduction.{Reduction}
-use Rattle.linear.specs.declared.reduce.Reduced.{Reduced}
-use Rattle.linear.proofs.AcceptLaws.{accepted-in, in-accepted}
+use Rattle.linear.specs.declared.reduce.ReducedRows.{ReducedRows}
+use Rattle.words.proofs.AcceptedLaws.{accepted-in, in-accepted}
+use Rattle.words.proofs.CodeLaws.{places-are, rows-are}
 
 module _ (n k : ℕ) (rows : List ℕ) (A : Accepted n k rows) where
-  -- the reduced rows have an entry for each place
-  places : length (reduce n rows) ≡ n
-  places = whole n rows (A .inside) .reduced .size
-
-  pub frees-are : length (freesFrom 0 (reduce n rows)) + k ≡ n
-  frees-are = omega (arith, check-count n rows (A .inside) (A .independent), A .count)
-
-  pub rows-are : length (reducedRows n rows) ≡ k
-  rows-are = omega (arith, rows-count 0 (reduce n rows), frees-are, places)
-
   narrow : n ≤ 32
   narrow = omega (arith, A .range .places)
-
-  -- every codeword has exactly one message
-  pub one-is : (w : ℕ) → Codeword rows w → IsMessage rows w (messageOf rows w)
-  one-is w (u, h, e) =
-      let t : Trace rows u w = (h, sym e) in
-      rw (trace-message rows (A .independent) u w t) (trace-is rows (A .independent) u w t)
-
-  pub back-is : (u : ℕ) → u < 2 ^ k → messageOf rows (encode rows u) ≡ u
-  back-is u h = message-back rows (A .independent) u (rw (A .count) h)
 
   -- the messages beside the reduced rows are theirs
   pub beside-are : (M : List ℕ) → Traced rows M (reduce 32 rows) → M ≡ map (messageOf rows) (reduce 32 rows)
@@ -71,7 +51,7 @@ module _ (n k : ℕ) (rows : List ℕ) (A : Accepted n k rows) where
 
   module _ (table : List ℕ) (is : table ≡ reduce 32 rows) where
     -- the table is the reduced rows in n places, and zeros
-    pub wide : table ≡ reduce n rows ++ blank (32 - n)
+    pub wide : table ≡ reduce n rows ++ zeros (32 - n)
     wide = is ∙ reduce-wide n 32 narrow rows (A .inside)
 
     pub table-size : length table ≡ 32
@@ -81,7 +61,7 @@ module _ (n k : ℕ) (rows : List ℕ) (A : Accepted n k rows) where
     places-fit = omega (arith, table-size, narrow)
 
     pub table-take : take n table ≡ reduce n rows
-    table-take = ap (take n) wide ∙ take-at (reduce n rows) (blank (32 - n)) n places
+    table-take = ap (take n) wide ∙ take-at (reduce n rows) (zeros (32 - n)) n (places-are n k rows A)
 
     pub compact-is : rowsOf table ≡ reducedRows n rows
     compact-is = ap rowsOf wide ∙ rows-zeros (reduce n rows) (32 - n)
@@ -91,8 +71,8 @@ pub table-of : {n k : ℕ} {rows : List ℕ} {r : Reduction} → ReductionOf n k
 table-of R d = rw d at (R .table-is)
 
 -- the reduced rows of an accepted matrix are its reduced row echelon form, the only one
-pub reduced-rows : (n k : ℕ) (rows : List ℕ) (r : Reduced) → r .answer ≡ matrixAnswer n k rows
-    → r .rows ≡ ifDone (r .answer) (padded maxRows (reducedRows n rows)) (blank maxRows) → ReducedRows n k rows r
+pub reduced-rows : (n k : ℕ) (rows : List ℕ) (r : ReducedRows) → r .answer ≡ matrixAnswer n k rows
+    → r .rows ≡ ifDone (r .answer) (padded maxRows (reducedRows n rows)) (zeros maxRows) → ReducedRowsOf n k rows r
 reduced-rows n k rows r a e = record {
   answer = a;
   rows-are = e;
@@ -108,7 +88,7 @@ reduced-rows n k rows r a e = record {
     form d = reducedRows-form n rows (accepted d .inside)
 
 -- on a refusal there is no message
-pub messages-refused : (n : ℕ) (rows : List ℕ) (a : Answer) (M : List ℕ) (c : Refusal) → a ≡ Refused c → M ≡ blank 32 → MessagesByPivot n rows a M
+pub messages-refused : (n : ℕ) (rows : List ℕ) (a : Answer) (M : List ℕ) (c : Refusal) → a ≡ Refused c → M ≡ zeros 32 → MessagesByPivot n rows a M
 messages-refused n rows a M c e z = record { are = rw e z; by-pivot = λ d. refused-done (sym e ∙ d); traced = λ d. refused-done (sym e ∙ d) }
 
 -- ---- what the reduction promises, on success and on a refusal
@@ -123,7 +103,7 @@ module _ (n k : ℕ) (rows : List ℕ) (r : Reduction) where
   }
 
   -- a refusal has 0 in every other part
-  pub reduction-refused : (c : Refusal) → r .answer ≡ Refused c → (r .rows ≡ blank maxRows) × (r .table ≡ blank 32) × (r .messages ≡ blank 32)
+  pub reduction-refused : (c : Refusal) → r .answer ≡ Refused c → (r .rows ≡ zeros maxRows) × (r .table ≡ zeros 32) × (r .messages ≡ zeros 32)
       → matrixAnswer n k rows ≡ Refused c → ReductionOf n k rows r
   reduction-refused c e (x, y, z) m = record {
     reduced = reduced-rows n k rows _ (e ∙ sym m) (rw e x);

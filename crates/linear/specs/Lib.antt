@@ -1,4 +1,4 @@
-pub mod Accepted
 pub mod Eliminated
 pub mod Reduction
 pub mod ReducedRows
+pub mod Judged

@@ -3,19 +3,19 @@ use mathlib.Core.Path.{_≡_}
 use mathlib.Core.List.{List}
 use Prim.Native.Nat.{ℕ}
 use lib.ListN.{length}
-use Rattle.coding.specs.Lists.{blank, padded}
+use Rattle.coding.specs.Lists.{zeros, padded}
 use Rattle.coding.specs.Reduced.{ReducedForm, reducedRows, pivots}
 use Rattle.words.specs.Limits.{maxRows}
 use Rattle.words.specs.Refusal.{ifDone}
-use Rattle.linear.specs.Accepted.{matrixAnswer}
+use Rattle.words.specs.Accepted.{matrixAnswer}
 use Rattle.words.specs.declared.answer.Answer.the-variants.{Done}
-use Rattle.linear.specs.declared.reduce.Reduced.{Reduced}
+use Rattle.linear.specs.declared.reduce.ReducedRows.{ReducedRows}
 
 -- causes 1 to 4; the k reduced rows and 0 after them, or 0 at every entry; and for an accepted matrix these rows are its
 -- reduced row echelon form, the only one
-pub record ReducedRows (n k : ℕ) (rows : List ℕ) (r : Reduced) : Type 0 where
+pub record ReducedRowsOf (n k : ℕ) (rows : List ℕ) (r : ReducedRows) : Type 0 where
   pub answer : r .answer ≡ matrixAnswer n k rows
-  pub rows-are : r .rows ≡ ifDone (r .answer) (padded maxRows (reducedRows n rows)) (blank maxRows)
+  pub rows-are : r .rows ≡ ifDone (r .answer) (padded maxRows (reducedRows n rows)) (zeros maxRows)
   pub count : r .answer ≡ Done → length (reducedRows n rows) ≡ k
   pub form : r .answer ≡ Done → ReducedForm rows (reducedRows n rows) (pivots n rows)
   pub only : r .answer ≡ Done → (A P : List ℕ) → ReducedForm rows A P → (A ≡ reducedRows n rows) × (P ≡ pivots n rows)

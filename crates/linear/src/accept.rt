@@ -1,7 +1,7 @@
 // Causes 1 to 4: which matrices are accepted.
 use crate::reduce::reduce;
 use words::answer::Answer;
-ghost use Rattle.linear.specs.Accepted.{Judged};
+ghost use Rattle.linear.specs.Judged.{Judged};
 
 // Causes 1 to 4: the first that refuses the matrix, or Done where it is accepted.
 pub fn accept(n: u32, k: u32, rows: &[u32]) -> Answer

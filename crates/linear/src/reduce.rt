@@ -9,12 +9,12 @@ ghost use mathlib.Core.Path.{_≡_};
 ghost use Prim.Native.Nat.{_<_, _≤_, _^_};
 ghost use lib.ListN.{length, set};
 ghost use Rattle.coding.specs.Matrix.{Inside};
-ghost use Rattle.coding.specs.Lists.{blank, padded};
+ghost use Rattle.coding.specs.Lists.{zeros, padded};
 ghost use Rattle.coding.specs.Reduced.{wipes, rowsOf};
 ghost use Rattle.words.specs.Limits.{maxRows};
 ghost use Rattle.linear.specs.Eliminated.{Eliminated};
 ghost use Rattle.linear.specs.Reduction.{ReductionOf};
-ghost use Rattle.linear.specs.ReducedRows.{ReducedRows};
+ghost use Rattle.linear.specs.ReducedRows.{ReducedRowsOf};
 
 // Reduced rows listed by place: entry p is the row whose pivot is p, or 0. Beside each stands a message that has it as its codeword.
 pub(crate) struct Elimination {
@@ -84,7 +84,7 @@ pub struct Reduction {
 }
 
 fn refused(answer: Answer) -> Reduction
-    ensures { λ r. ⌜ (r .answer ≡ answer) × (r .rows ≡ blank maxRows) × (r .table ≡ blank 32) × (r .messages ≡ blank 32) ⌝ }
+    ensures { λ r. ⌜ (r .answer ≡ answer) × (r .rows ≡ zeros maxRows) × (r .table ≡ zeros 32) × (r .messages ≡ zeros 32) ⌝ }
 {
     Reduction {
         answer,
@@ -137,17 +137,17 @@ pub fn reduce(n: u32, k: u32, rows: &[u32]) -> Reduction
 }
 
 // The answer to a matrix, and where it is accepted its k reduced rows; 0 at every other entry.
-pub struct Reduced {
+pub struct ReducedRows {
     pub answer: Answer,
     pub rows: [u32; MAX_ROWS],
 }
 
 // The reduced row echelon form of an accepted matrix.
-pub fn reduced_rows(n: u32, k: u32, rows: &[u32]) -> Reduced
-    ensures { λ r. ⌜ ReducedRows n k (now (rows .entry)) r ⌝ }
+pub fn reduced_rows(n: u32, k: u32, rows: &[u32]) -> ReducedRows
+    ensures { λ r. ⌜ ReducedRowsOf n k (now (rows .entry)) r ⌝ }
 {
     let r = reduce(n, k, rows);
     let answer = r.answer;
     let rows = r.rows;
-    Reduced { answer, rows }
+    ReducedRows { answer, rows }
 }

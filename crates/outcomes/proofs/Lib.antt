@@ -1,1 +1,1 @@
-pub mod CauseLaws
+pub mod DemandLaws

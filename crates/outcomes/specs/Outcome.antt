@@ -1,9 +1,10 @@
 -- 01, part 5: how one word ends, what it leaves in the lists, and the reading.
-use mathlib.Core.Bool.{Bool, true}
+use mathlib.Core.List.{List}
+use mathlib.Core.Bool.{Bool, true, cond}
 use Prim.Native.Nat.{ℕ}
 use lib.Dec.{eqb, leb}
-use Rattle.coding.specs.Lists.{pick}
 use Rattle.coding.specs.Word.{_⊕_, weight}
+use Rattle.coding.specs.Leader.{syndromeOf, leaderOf}
 use Rattle.outcomes.specs.declared.outcome.Reading.{Reading}
 use Rattle.outcomes.specs.declared.outcome.Reading.the-variants.{Nearest, Within}
 use Rattle.outcomes.specs.declared.outcome.Outcome.{Outcome}
@@ -16,7 +17,7 @@ takes (Within r) d = leb d r
 
 -- the received word w, with the leader e of its syndrome
 abbrev pub outcomeOf : Reading → ℕ → ℕ → Outcome
-outcomeOf reading w e = pick (eqb (weight e) 0) (Clean w) (pick (takes reading (weight e)) (Mended (w ⊕ e) (weight e)) Far)
+outcomeOf reading w e = cond (eqb (weight e) 0) (Clean w) (cond (takes reading (weight e)) (Mended (w ⊕ e) (weight e)) Far)
 
 -- the slot of the codeword list: a far word stays as received
 abbrev pub wordIn : Outcome → ℕ → ℕ
@@ -29,3 +30,13 @@ abbrev pub countIn : Outcome → ℕ
 countIn (Clean c) = 0
 countIn (Mended c d) = d
 countIn Far = 255
+
+-- how a received word ends: with the leader of its syndrome
+abbrev pub decodedAs : ℕ → List ℕ → Reading → ℕ → Outcome
+decodedAs n rows reading w = outcomeOf reading w (leaderOf n rows (syndromeOf n rows w))
+
+abbrev pub wordOf : ℕ → List ℕ → Reading → ℕ → ℕ
+wordOf n rows reading w = wordIn (decodedAs n rows reading w) w
+
+abbrev pub countOf : ℕ → List ℕ → Reading → ℕ → ℕ
+countOf n rows reading w = countIn (decodedAs n rows reading w)

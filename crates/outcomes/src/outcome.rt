@@ -18,7 +18,7 @@ pub enum Outcome {
 }
 
 // The received word with the leader of its syndrome.
-pub fn judged(reading: Reading, received: u32, leader: u32) -> Outcome
+pub fn outcome_of(reading: Reading, received: u32, leader: u32) -> Outcome
     ensures { λ o. ⌜ o ≡ outcomeOf reading received leader ⌝ }
 {
     let d = weight(leader);

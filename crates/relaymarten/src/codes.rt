@@ -10,11 +10,11 @@ use words::limits::MAX_ROWS;
 use words::limits::WIDTH;
 ghost use mathlib.Core.Path.{_≡_};
 ghost use lib.ListN.{length};
-ghost use Rattle.linear.specs.Accepted.{matrixAnswer};
+ghost use Rattle.words.specs.Accepted.{matrixAnswer};
 ghost use Rattle.encoder.specs.Encoded.{encodeAnswer, Encoded};
 ghost use Rattle.encoder.specs.MessagesRead.{messageAnswer, MessagesRead};
-ghost use Rattle.weights.specs.Described.{Described};
-ghost use Rattle.outcomes.specs.Causes.{decodeAnswer};
+ghost use Rattle.weights.specs.Description.{DescriptionOf};
+ghost use Rattle.decoder.specs.Causes.{decodeAnswer};
 ghost use Rattle.decoder.specs.Decoded.{Decoded};
 ghost use Rattle.relaymarten.specs.Reading.{readingOf};
 ghost use Rattle.relaymarten.specs.Told.{Told};
@@ -32,7 +32,7 @@ pub extern "C" fn relay_describe(
     lightest: &mut u32,
     value: &mut usize,
 ) -> u32
-    ensures { λ r. ⌜ Told (λ a. Described n k (now (rows .entry)) (record { answer = a; rows = now (reduced .exit); checks = now (checks .exit); dmin = now (dmin .exit); counts = now (counts .exit); lightest = now (lightest .exit) })) (matrixAnswer n k (now (rows .entry))) r (now (value .exit)) ⌝ }
+    ensures { λ r. ⌜ Told (λ a. DescriptionOf n k (now (rows .entry)) (record { answer = a; rows = now (reduced .exit); checks = now (checks .exit); dmin = now (dmin .exit); counts = now (counts .exit); lightest = now (lightest .exit) })) (matrixAnswer n k (now (rows .entry))) r (now (value .exit)) ⌝ }
 {
     let d = describe(n, k, rows);
     let first = d.rows;

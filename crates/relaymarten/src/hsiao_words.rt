@@ -2,11 +2,11 @@
 use crate::told::tell;
 use hsiao::decode::decode;
 use hsiao::encode::encode;
-use hsiao::read::read;
+use hsiao::message::message;
 use hsiao::word::Word;
 ghost use Rattle.hsiao.specs.Encoded.{Encoded};
 ghost use Rattle.hsiao.specs.Decoded.{Decoded};
-ghost use Rattle.hsiao.specs.DataRead.{readAnswer, DataRead};
+ghost use Rattle.hsiao.specs.MessageRead.{messageAnswer, MessageRead};
 ghost use Rattle.relaymarten.specs.Told.{Told};
 
 // The check byte of the data; no data is refused.
@@ -36,10 +36,10 @@ pub extern "C" fn relay_hsiao_decode(check: &mut u8, bits: &mut u64) -> u8
 // Writes the data of a codeword.
 #[no_mangle]
 pub extern "C" fn relay_hsiao_message(check: u8, bits: u64, out: &mut u64, value: &mut usize) -> u32
-    ensures { λ r. ⌜ Told (λ a. DataRead (record { check = check; «data» = bits }) (record { answer = a; «data» = now (out .exit) })) (readAnswer (record { check = check; «data» = bits })) r (now (value .exit)) ⌝ }
+    ensures { λ r. ⌜ Told (λ a. MessageRead (record { check = check; «data» = bits }) (record { answer = a; «data» = now (out .exit) })) (messageAnswer (record { check = check; «data» = bits })) r (now (value .exit)) ⌝ }
 {
     let w = Word { check, data: bits };
-    let b = read(w);
+    let b = message(w);
     *out = b.data;
     let a = b.answer;
     tell(a, value)

@@ -1,6 +1,6 @@
 -- Laws of the reading: what a field that was read leaves known, and one step of the recursion over fields. Assumes nothing.
 use mathlib.Core.Path.{_≡_, refl, sym, _∙_}
-use mathlib.Core.Bool.{Bool, true, false}
+use mathlib.Core.Bool.{Bool, true, false, cond}
 use mathlib.Core.List.{List}
 use Prim.Native.Nat.{ℕ, zero, suc, _+_, _-_, _≤_, _<_}
 use native.Mathlib.Decide.{decLe}
@@ -8,7 +8,6 @@ use native.Mathlib.Omega.{arith}
 use borrow.Author.Tests.{ltb-false, leb-false, lt-ltb, le-ltb}
 use lib.Dec.{ltb, leb}
 use lib.ListN.{length, getD, set}
-use Rattle.coding.specs.Lists.{pick}
 use Rattle.sheet.specs.Field.{maxTag, contentOf, sizeAt, gotten, fieldAt}
 use Rattle.sheet.specs.Sheet.{sheetIn, sheetFrom}
 use Rattle.sheet.specs.declared.answer.Fault.{Fault}
@@ -21,7 +20,7 @@ use Rattle.sheet.specs.declared.field.Field.the-variants.{Got, Bad}
 
 -- ---- a field that was read
 
-past : (b : Bool) (c : Fault) (rest : Field) (t : ℕ) (x : Content) (z : ℕ) → pick b (Bad c) rest ≡ Got t x z → (b ≡ false) × (rest ≡ Got t x z)
+past : (b : Bool) (c : Fault) (rest : Field) (t : ℕ) (x : Content) (z : ℕ) → cond b (Bad c) rest ≡ Got t x z → (b ≡ false) × (rest ≡ Got t x z)
 past true c rest t x z e = let w : _≡_ {A = ℕ} 0 1 = cc in absurd (omega arith)
 past false c rest t x z e = (refl, e)
 

@@ -1,6 +1,6 @@
 -- Where a sheet's rows and words stand: within its bytes. Assumes nothing.
 use mathlib.Core.Path.{_≡_, refl, sym, ap, _∙_}
-use mathlib.Core.Bool.{Bool, true, false}
+use mathlib.Core.Bool.{Bool, true, false, cond}
 use mathlib.Core.List.{List}
 use Prim.Native.Nat.{ℕ, zero, suc, _+_, _-_, _*_, _/_, _%_, _≤_, _<_}
 use native.Mathlib.Decide.{ℕ-discrete, decLe}
@@ -8,7 +8,6 @@ use native.Mathlib.Omega.{arith}
 use lib.Dec.{ltb, eqb}
 use lib.ListN.{length, getD, set, replicate}
 use lib.Seq.{getD-set-same, getD-set-other, set-out}
-use Rattle.coding.specs.Lists.{pick}
 use Rattle.sheet.specs.Field.{maxTag, byteContent, wordsContent, contentOf, fieldAt}
 use Rattle.sheet.specs.Words.{Placed}
 use Rattle.sheet.specs.SheetRead.{SheetRead}
@@ -37,7 +36,7 @@ no-answer : {A : Type 0} {s : Sheet} {f : Fault} → Refused f ≡ Read s → A
 no-answer e = let z : _≡_ {A = ℕ} 0 1 = cc in absurd (omega arith)
 
 module _ (s : List ℕ) (span : Span) where
-  either : (b : Bool) (x y : Content) → pick b x y ≡ Words span → (x ≡ Words span → Within s span) → (y ≡ Words span → Within s span) → Within s span
+  either : (b : Bool) (x y : Content) → cond b x y ≡ Words span → (x ≡ Words span → Within s span) → (y ≡ Words span → Within s span) → Within s span
   either true x y e f g = f e
   either false x y e f g = g e
 

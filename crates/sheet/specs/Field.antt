@@ -1,9 +1,9 @@
 -- 01, "The code sheet": one field, a one-byte tag, a two-byte length (high byte first), and the content.
 use mathlib.Core.List.{List}
+use mathlib.Core.Bool.{cond}
 use Prim.Native.Nat.{ℕ, _+_, _-_, _*_, _/_, _%_}
 use lib.Dec.{eqb, leb, ltb}
 use lib.ListN.{length, getD}
-use Rattle.coding.specs.Lists.{pick}
 use Rattle.sheet.specs.declared.answer.Fault.the-variants.{Layout, Tag}
 use Rattle.sheet.specs.declared.field.Content.{Content}
 use Rattle.sheet.specs.declared.field.Content.the-variants.{Absent, Byte, Words}
@@ -16,20 +16,20 @@ maxTag = 5
 
 -- a content of one byte
 abbrev pub byteContent : List ℕ → ℕ → ℕ → Content
-byteContent s from size = pick (eqb size 1) (Byte (getD s from 0)) Absent
+byteContent s from size = cond (eqb size 1) (Byte (getD s from 0)) Absent
 
 -- a content of words, four bytes each
 abbrev pub wordsContent : ℕ → ℕ → Content
-wordsContent from size = pick (eqb (size % 4) 0) (Words (record { at = from; count = size / 4 })) Absent
+wordsContent from size = cond (eqb (size % 4) 0) (Words (record { at = from; count = size / 4 })) Absent
 
 -- the content of a tag: one byte for tags 1, 2 and 4, words for tags 3 and 5; Absent where the length is wrong
 unfoldable pub contentOf : List ℕ → ℕ → ℕ → ℕ → Content
 contentOf s tag from size =
-    pick (eqb tag 1) (byteContent s from size)
-    (pick (eqb tag 2) (byteContent s from size)
-    (pick (eqb tag 3) (wordsContent from size)
-    (pick (eqb tag 4) (byteContent s from size)
-    (pick (eqb tag 5) (wordsContent from size) Absent))))
+    cond (eqb tag 1) (byteContent s from size)
+    (cond (eqb tag 2) (byteContent s from size)
+    (cond (eqb tag 3) (wordsContent from size)
+    (cond (eqb tag 4) (byteContent s from size)
+    (cond (eqb tag 5) (wordsContent from size) Absent))))
 
 -- the length of the field at this position
 abbrev pub sizeAt : List ℕ → ℕ → ℕ
@@ -45,8 +45,8 @@ gotten (Words span) at tag next = Got tag (Words span) next
 -- The position is the tag's
 unfoldable pub fieldAt : List ℕ → ℕ → ℕ → Field
 fieldAt s at last =
-    pick (ltb (length s - at) 3) (Bad (Layout at))
-    (pick (ltb maxTag (getD s at 0)) (Bad (Tag at))
-    (pick (leb (getD s at 0) last) (Bad (Tag at))
-    (pick (ltb (length s - at - 3) (sizeAt s at)) (Bad (Layout at))
+    cond (ltb (length s - at) 3) (Bad (Layout at))
+    (cond (ltb maxTag (getD s at 0)) (Bad (Tag at))
+    (cond (leb (getD s at 0) last) (Bad (Tag at))
+    (cond (ltb (length s - at - 3) (sizeAt s at)) (Bad (Layout at))
     (gotten (contentOf s (getD s at 0) (at + 3) (sizeAt s at)) at (getD s at 0) (at + 3 + sizeAt s at)))))

@@ -1,9 +1,9 @@
 -- 01, "The code sheet": the sheet that bytes say, or the refusal.
 use mathlib.Core.List.{List}
+use mathlib.Core.Bool.{cond}
 use Prim.Native.Nat.{ℕ, zero, suc}
 use lib.Dec.{ltb}
 use lib.ListN.{length, getD, set, replicate}
-use Rattle.coding.specs.Lists.{pick}
 use Rattle.outcomes.specs.declared.outcome.Reading.{Reading}
 use Rattle.outcomes.specs.declared.outcome.Reading.the-variants.{Nearest, Within}
 use Rattle.sheet.specs.Field.{maxTag, fieldAt}
@@ -57,11 +57,11 @@ follow (Bad fault) rest = Refused fault
 unfoldable pub sheetFrom : ℕ → List ℕ → ℕ → ℕ → List Content → SheetAnswer
 sheetFrom zero s at last contents = sheetIn contents (length s)
 sheetFrom (suc d) s at last contents =
-    pick (ltb at (length s))
+    cond (ltb at (length s))
     (follow (fieldAt s at last) (λ tag content next. sheetFrom d s next tag (set contents tag content)))
     (sheetIn contents (length s))
 
 unfoldable pub sheetOf : List ℕ → SheetAnswer
 sheetOf s =
-    pick (ltb maxSheet (length s)) (Refused (Layout maxSheet))
+    cond (ltb maxSheet (length s)) (Refused (Layout maxSheet))
     (sheetFrom (length s) s 0 0 (replicate (suc maxTag) Absent))

@@ -9,26 +9,25 @@ use native.Mathlib.Omega.{arith}
 use borrow.Author.Tests.{eq-eqb, ne-eqb}
 use lib.ListN.{length, take, length-map, length-take, length-replicate}
 use lib.Seq.{take-at}
-use Rattle.coding.specs.Lists.{blank as zeros}
+use Rattle.coding.specs.Lists.{zeros}
 use Rattle.coding.specs.Word.{_⊕_, weight}
 use Rattle.coding.specs.Weight.{dmin}
 use Rattle.coding.specs.Leader.{syndromeOf, leaderOf}
 use Rattle.words.specs.Limits.{maxWords, maxChecks}
 use Rattle.words.specs.Refusal.{numberOf, valueOf}
-use Rattle.linear.specs.Accepted.{Accepted}
+use Rattle.words.specs.Accepted.{Accepted}
 use Rattle.words.specs.declared.answer.Refusal.{Refusal}
 use Rattle.words.specs.declared.answer.Answer.{Answer}
 use Rattle.words.specs.declared.answer.Answer.the-variants.{Done, Refused}
-use Rattle.linear.proofs.AcceptLaws.{accepted-in}
-use Rattle.weights.proofs.DescribeLaws.{distance-is}
-use Rattle.outcomes.specs.Outcome.{takes, outcomeOf, wordIn, countIn}
-use Rattle.outcomes.specs.Causes.{decodeAnswer}
-use Rattle.decoder.specs.Decoded.{decodedAs, wordOf, countOf, Decoded}
+use Rattle.words.proofs.AcceptedLaws.{accepted-in}
+use Rattle.words.proofs.CodeLaws.{distance-is, leader-weight}
+use Rattle.outcomes.specs.Outcome.{takes, outcomeOf, wordIn, countIn, decodedAs, wordOf, countOf}
+use Rattle.decoder.specs.Causes.{decodeAnswer}
+use Rattle.decoder.specs.Decoded.{Decoded}
 use Rattle.outcomes.specs.declared.outcome.Reading.{Reading}
 use Rattle.outcomes.specs.declared.outcome.Outcome.{Outcome}
 use Rattle.outcomes.specs.declared.outcome.Outcome.the-variants.{Clean, Mended, Far}
-use Rattle.outcomes.proofs.CauseLaws.{Passed, batch-in}
-use Rattle.leaders.proofs.BuiltLaws.{leader-weight}
+use Rattle.decoder.proofs.CauseLaws.{Passed, batch-in}
 use Rattle.sheet_run.specs.Output.{ending, wordLine, wordLines, refusedLine, codeLine, linesOf, batchOutput}
 use Rattle.sheet_run.specs.Slots.{slotEnding, slotLine, slotLines}
 

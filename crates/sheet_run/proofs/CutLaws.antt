@@ -13,17 +13,17 @@ use Rattle.coding.specs.Weight.{dmin}
 use Rattle.words.specs.Limits.{inRange, maxRows, maxWords, maxChecks}
 use Rattle.words.specs.Refusal.{unless, andThen}
 use Rattle.words.specs.Shape.{shapeAnswer}
-use Rattle.linear.specs.Accepted.{matrixAnswer}
+use Rattle.words.specs.Accepted.{matrixAnswer}
 use Rattle.words.specs.Lists.{listAnswer}
 use Rattle.words.specs.declared.answer.Refusal.{Refusal}
 use Rattle.words.specs.declared.answer.Refusal.the-variants.{OutOfRange, RowCount, TooManyWords}
 use Rattle.words.specs.declared.answer.Answer.{Answer}
 use Rattle.words.specs.declared.answer.Answer.the-variants.{Done, Refused}
 use Rattle.words.proofs.ShapeLaws.{range-in}
-use Rattle.linear.proofs.AcceptLaws.{shape-refused}
-use Rattle.outcomes.specs.Causes.{radiusAnswer, listsAnswer, decodeAnswer}
+use Rattle.words.proofs.AcceptedLaws.{shape-refused}
+use Rattle.decoder.specs.Causes.{radiusAnswer, listsAnswer, decodeAnswer}
 use Rattle.outcomes.specs.declared.outcome.Reading.{Reading}
-use Rattle.outcomes.proofs.CauseLaws.{at-matrix}
+use Rattle.decoder.proofs.CauseLaws.{at-matrix}
 use Rattle.sheet_run.specs.Output.{linesOf, batchOutput}
 
 -- the number of rows is none that a code has: cause 1 or 2

@@ -10,19 +10,19 @@ use lib.Seq.{take-length}
 use Rattle.coding.specs.Word.{bit}
 use Rattle.coding.proofs.CountLaws.{length-tabulate}
 use Rattle.sheet_run.specs.Decimal.{digit, decimal}
-use Rattle.sheet_run.specs.Output.{blank, lineFeed, refusedText, refusedLine, codeLine, digitsOf}
+use Rattle.sheet_run.specs.Output.{space, lineFeed, refusedText, refusedLine, codeLine, digitsOf}
 use Rattle.sheet_run.specs.Slots.{slotEnding, slotLine, slotLines}
 
-pub refused-parts : (number value : ℕ) → (refusedText ++ blank ∷ []) ++ (decimal number ++ blank ∷ []) ++ (decimal value ++ lineFeed ∷ []) ≡ refusedLine number value
+pub refused-parts : (number value : ℕ) → (refusedText ++ space ∷ []) ++ (decimal number ++ space ∷ []) ++ (decimal value ++ lineFeed ∷ []) ≡ refusedLine number value
 unfolding refusedLine
 refused-parts number value = simp append-assoc
 
 pub code-parts : (n k d : ℕ)
-    → (decimal n ++ blank ∷ []) ++ (decimal k ++ blank ∷ []) ++ (decimal d ++ blank ∷ []) ++ (decimal ((d - 1) / 2) ++ lineFeed ∷ []) ≡ codeLine n k d
+    → (decimal n ++ space ∷ []) ++ (decimal k ++ space ∷ []) ++ (decimal d ++ space ∷ []) ++ (decimal ((d - 1) / 2) ++ lineFeed ∷ []) ≡ codeLine n k d
 unfolding codeLine
 code-parts n k d = simp append-assoc
 
-pub slot-parts : (n c count : ℕ) → digitsOf n c ++ blank ∷ [] ++ slotEnding count ++ lineFeed ∷ [] ≡ slotLine n c count
+pub slot-parts : (n c count : ℕ) → digitsOf n c ++ space ∷ [] ++ slotEnding count ++ lineFeed ∷ [] ≡ slotLine n c count
 unfolding slotLine
 slot-parts n c count = simp append-assoc
 

@@ -8,9 +8,8 @@ use Rattle.words.specs.Limits.{maxWords, maxChecks}
 use Rattle.words.specs.Refusal.{numberOf, valueOf}
 use Rattle.words.specs.declared.answer.Answer.{Answer}
 use Rattle.words.specs.declared.answer.Answer.the-variants.{Done, Refused}
-use Rattle.outcomes.specs.Outcome.{wordIn}
-use Rattle.outcomes.specs.Causes.{decodeAnswer}
-use Rattle.decoder.specs.Decoded.{decodedAs}
+use Rattle.outcomes.specs.Outcome.{wordIn, decodedAs}
+use Rattle.decoder.specs.Causes.{decodeAnswer}
 use Rattle.outcomes.specs.declared.outcome.Reading.{Reading}
 use Rattle.outcomes.specs.declared.outcome.Outcome.{Outcome}
 use Rattle.outcomes.specs.declared.outcome.Outcome.the-variants.{Clean, Mended, Far}
@@ -23,8 +22,8 @@ use Rattle.sheet.specs.declared.answer.SheetAnswer.the-variants as reading
 
 -- ---- characters
 
-abbrev pub blank : ℕ
-blank = 32
+abbrev pub space : ℕ
+space = 32
 
 abbrev pub lineFeed : ℕ
 lineFeed = 10
@@ -41,11 +40,11 @@ refusedText = 114 ∷ 101 ∷ 102 ∷ 117 ∷ 115 ∷ 101 ∷ 100 ∷ []
 
 -- "refused", the number and the value beside it
 unfoldable pub refusedLine : ℕ → ℕ → List ℕ
-refusedLine number value = refusedText ++ blank ∷ decimal number ++ blank ∷ decimal value ++ lineFeed ∷ []
+refusedLine number value = refusedText ++ space ∷ decimal number ++ space ∷ decimal value ++ lineFeed ∷ []
 
 -- "n k dmin t" with t = (dmin - 1) / 2 rounded down
 unfoldable pub codeLine : ℕ → ℕ → ℕ → List ℕ
-codeLine n k d = decimal n ++ blank ∷ decimal k ++ blank ∷ decimal d ++ blank ∷ decimal ((d - 1) / 2) ++ lineFeed ∷ []
+codeLine n k d = decimal n ++ space ∷ decimal k ++ space ∷ decimal d ++ space ∷ decimal ((d - 1) / 2) ++ lineFeed ∷ []
 
 -- the n digits of a word, place 0 leftmost
 unfoldable pub digitsOf : ℕ → ℕ → List ℕ
@@ -59,7 +58,7 @@ ending Far = farText
 
 -- the line of a received word: the digits of the codeword and the count, or the received digits and "far"
 unfoldable pub wordLine : ℕ → ℕ → Outcome → List ℕ
-wordLine n w o = digitsOf n (wordIn o w) ++ blank ∷ ending o ++ lineFeed ∷ []
+wordLine n w o = digitsOf n (wordIn o w) ++ space ∷ ending o ++ lineFeed ∷ []
 
 -- a line for each word
 unfoldable pub wordLines : ℕ → (ℕ → Outcome) → List ℕ → List ℕ

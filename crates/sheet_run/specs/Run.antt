@@ -1,10 +1,10 @@
 -- What a run leaves in the lent list.
 use mathlib.Core.Path.{_≡_}
 use mathlib.Core.List.{List, _++_}
+use mathlib.Core.Bool.{cond}
 use Prim.Native.Nat.{ℕ, _≤_}
 use lib.Dec.{leb}
 use lib.ListN.{length, take, drop}
-use Rattle.coding.specs.Lists.{pick}
 use Rattle.sheet_run.specs.Output.{outputOf}
 
 -- room for the longest output, at n = 32 and 512 words too
@@ -14,7 +14,7 @@ maxOutput = 20480
 -- where the list has room, its first r slots are the output and the others are as they were; else all are, and r is 0. The last two
 -- say that r counts slots of the list, for a caller that lends its first r slots on
 pub record Ran (sheet before : List ℕ) (r : ℕ) (after : List ℕ) : Type 0 where
-  pub count : r ≡ pick (leb maxOutput (length before)) (length (outputOf sheet)) 0
-  pub list : after ≡ pick (leb maxOutput (length before)) (outputOf sheet ++ drop (length (outputOf sheet)) before) before
+  pub count : r ≡ cond (leb maxOutput (length before)) (length (outputOf sheet)) 0
+  pub list : after ≡ cond (leb maxOutput (length before)) (outputOf sheet ++ drop (length (outputOf sheet)) before) before
   pub fits : r ≤ length after
   pub part : r ≡ length (take r after)

@@ -1,16 +1,16 @@
 -- The lines of a batch by the slots of Decode's lists: slot i of the codewords and slot i of the counts, where 255 means far.
 use mathlib.Core.List.{List, [], _∷_, _++_}
+use mathlib.Core.Bool.{cond}
 use Prim.Native.Nat.{ℕ}
 use lib.Dec.{eqb}
-use Rattle.coding.specs.Lists.{pick}
 use Rattle.sheet_run.specs.Decimal.{decimal}
-use Rattle.sheet_run.specs.Output.{blank, lineFeed, farText, digitsOf}
+use Rattle.sheet_run.specs.Output.{space, lineFeed, farText, digitsOf}
 
 abbrev pub slotEnding : ℕ → List ℕ
-slotEnding count = pick (eqb count 255) farText (decimal count)
+slotEnding count = cond (eqb count 255) farText (decimal count)
 
 unfoldable pub slotLine : ℕ → ℕ → ℕ → List ℕ
-slotLine n c count = digitsOf n c ++ blank ∷ slotEnding count ++ lineFeed ∷ []
+slotLine n c count = digitsOf n c ++ space ∷ slotEnding count ++ lineFeed ∷ []
 
 unfoldable pub slotLines : ℕ → List ℕ → List ℕ → List ℕ
 slotLines n [] counts = []

@@ -8,7 +8,7 @@ ghost use Rattle.sheet_run.specs.Decimal.{decimal};
 ghost use Rattle.sheet_run.specs.Output.{refusedLine, codeLine, digitsOf};
 ghost use Rattle.sheet_run.specs.Slots.{slotEnding, slotLine, slotLines};
 
-const BLANK: u8 = 32;
+const SPACE: u8 = 32;
 
 const LINE_FEED: u8 = 10;
 
@@ -62,7 +62,7 @@ pub(crate) fn put_refusal(out: &mut [u8], number: u32, value: usize) -> usize
     ensures { λ r. ⌜ Appends (now (out .entry)) 0 (refusedLine number value) (now (out .exit)) r ⌝ }
 {
     let a = put_text(out, 0, b"refused ");
-    let b = put_number(out, a, number as usize, BLANK);
+    let b = put_number(out, a, number as usize, SPACE);
     put_number(out, b, value, LINE_FEED)
 }
 
@@ -72,9 +72,9 @@ fn put_code(out: &mut [u8], n: u32, k: u32, d: u32) -> usize
     ensures { λ r. ⌜ Appends (now (out .entry)) 0 (codeLine n k d) (now (out .exit)) r ⌝ }
     ensures { λ r. ⌜ r ≤ 84 ⌝ }
 {
-    let a = put_number(out, 0, n as usize, BLANK);
-    let b = put_number(out, a, k as usize, BLANK);
-    let c = put_number(out, b, d as usize, BLANK);
+    let a = put_number(out, 0, n as usize, SPACE);
+    let b = put_number(out, a, k as usize, SPACE);
+    let c = put_number(out, b, d as usize, SPACE);
     put_number(out, c, ((d - 1) / 2) as usize, LINE_FEED)
 }
 
@@ -109,7 +109,7 @@ fn put_line(out: &mut [u8], at: usize, n: u32, c: u32, count: u8) -> usize
     ensures { λ r. ⌜ r ≤ at + 37 ⌝ }
 {
     let a = put_digits(out, at, n, c);
-    let b = put(out, a, BLANK);
+    let b = put(out, a, SPACE);
     let d = put_ending(out, b, count);
     put(out, d, LINE_FEED)
 }

@@ -5,7 +5,7 @@ use crate::print::item;
 use crate::print::long;
 use hsiao::decode::decode;
 use hsiao::encode::encode;
-use hsiao::read::read;
+use hsiao::message::message;
 use hsiao::syndrome::syndrome;
 use hsiao::word::Word;
 
@@ -17,7 +17,7 @@ fn joined(high: u32, low: u32) -> u64 {
 fn decoded(w: Word) {
     let d = decode(w);
     let c = d.word;
-    let r = read(w);
+    let r = message(w);
     let a = r.answer;
     item(syndrome(w) as u32);
     item(c.check as u32);

@@ -2,10 +2,10 @@
 use crate::print;
 use crate::print::answer;
 use crate::print::item;
-use checks::check::parity_checks;
-use checks::check::syndrome;
 use linear::accept::accept;
 use linear::reduce::reduced_rows;
+use parity::check::parity_checks;
+use parity::check::syndrome;
 use weights::describe::describe;
 use weights::weights::weights_of;
 use words::sums::row_sum;

@@ -2,7 +2,7 @@
 use mathlib.Core.Path.{_≡_, refl, sym, ap, ap₂, _∙_}
 use mathlib.Core.Logic.{_≢_, _⊎_, inl, inr}
 use mathlib.Core.List.{List, _++_, map}
-use mathlib.Core.Bool.{Bool, not}
+use mathlib.Core.Bool.{Bool, not, cond}
 use Prim.Native.Nat.{ℕ, zero, suc, _+_, _-_, _≤_, _<_, _^_, _*_, _%_}
 use native.Mathlib.Nat.{mul-le-mul-right, add-mul, one-mul}
 use native.Mathlib.Decide.{ℕ-discrete, decLe}
@@ -14,7 +14,7 @@ use lib.Pow.{pow-add, pow-mono}
 use lib.Bits.{xor-lt}
 use lib.Count.{ones-le}
 use borrow.Author.Tests.{eq-eqb, ne-eqb, eqb-true, eqb-false, not-true, not-false}
-use Rattle.coding.specs.Lists.{pick, first, blank, tabulate}
+use Rattle.coding.specs.Lists.{first, zeros, tabulate}
 use Rattle.coding.specs.Word.{_⊕_, weight, distance}
 use Rattle.coding.specs.Matrix.{encode}
 use Rattle.coding.specs.Weight.{count}
@@ -53,7 +53,7 @@ bumped ws counts counts₀ i h f j = go (ℕ-discrete j (getD ws i 0))
     go : Dec (j ≡ getD ws i 0) → getD (set counts (getD ws i 0) (getD counts (getD ws i 0) 0 + 1)) j 0 ≡ getD counts₀ j 0 + count (λ k. eqb (getD ws k 0) j) (i + 1)
     go (yes e) =
         let s : count (λ k. eqb (getD ws k 0) j) (i + 1) ≡ count (λ k. eqb (getD ws k 0) j) i + 1
-        = count-step (λ k. eqb (getD ws k 0) j) i ∙ ap (λ (b : Bool). count (λ k. eqb (getD ws k 0) j) i + pick b 1 0) (eq-eqb (getD ws i 0) j (sym e)) in
+        = count-step (λ k. eqb (getD ws k 0) j) i ∙ ap (λ (b : Bool). count (λ k. eqb (getD ws k 0) j) i + cond b 1 0) (eq-eqb (getD ws i 0) j (sym e)) in
         let t : getD (set counts (getD ws i 0) (getD counts (getD ws i 0) 0 + 1)) j 0 ≡ getD counts j 0 + 1
         = ap (λ (x : ℕ). getD (set counts (getD ws i 0) (getD counts (getD ws i 0) 0 + 1)) x 0) e ∙ getD-set-same counts (getD ws i 0) _ 0 h
         ∙ ap (λ (x : ℕ). getD counts x 0 + 1) (sym e) in
@@ -61,7 +61,7 @@ bumped ws counts counts₀ i h f j = go (ℕ-discrete j (getD ws i 0))
     go (no ne) =
         let s : count (λ k. eqb (getD ws k 0) j) (i + 1) ≡ count (λ k. eqb (getD ws k 0) j) i + 0
         = count-step (λ k. eqb (getD ws k 0) j) i
-        ∙ ap (λ (b : Bool). count (λ k. eqb (getD ws k 0) j) i + pick b 1 0) (ne-eqb (getD ws i 0) j (λ e. ne (sym e))) in
+        ∙ ap (λ (b : Bool). count (λ k. eqb (getD ws k 0) j) i + cond b 1 0) (ne-eqb (getD ws i 0) j (λ e. ne (sym e))) in
         omega (arith, s, getD-set-other counts (getD ws i 0) j (getD counts (getD ws i 0) 0 + 1) 0 ne, f j)
 
 -- ---- a block has been tallied
@@ -140,7 +140,7 @@ module _ (block : List ℕ) (base : ℕ) (ws : List ℕ) (is : ws ≡ map (λ b.
 
 -- ---- the walk block by block
 
-pub walked-start : (rows : List ℕ) → Walked rows 0 (record { counts = blank 33; least = 33; lightest = 0 })
+pub walked-start : (rows : List ℕ) → Walked rows 0 (record { counts = zeros 33; least = 33; lightest = 0 })
 walked-start rows = record {
   size = refl;
   counts = λ j h. getD-replicate 33 j 0 0 h;

@@ -1,14 +1,14 @@
 // Describe: what a matrix's code is, by value.
 use crate::walk::walk_all;
-use checks::check::code_of;
+use parity::check::code_of;
 use words::answer::Answer;
 use words::limits::MAX_CHECKS;
 use words::limits::MAX_ROWS;
 use words::limits::WIDTH;
 ghost use mathlib.Core.Path.{_≡_};
-ghost use Rattle.coding.specs.Lists.{blank};
+ghost use Rattle.coding.specs.Lists.{zeros};
 ghost use Rattle.words.specs.Limits.{maxRows, maxChecks};
-ghost use Rattle.weights.specs.Described.{Described};
+ghost use Rattle.weights.specs.Description.{DescriptionOf};
 
 // The answer to a matrix; where it is accepted, its reduced rows, check rows, minimum distance, weight counts and a codeword of
 // weight dmin. Entries past k, n - k and n are 0, and on a refusal every part is 0.
@@ -22,7 +22,7 @@ pub struct Description {
 }
 
 fn refused(answer: Answer) -> Description
-    ensures { λ r. ⌜ (r .answer ≡ answer) × (r .rows ≡ blank maxRows) × (r .checks ≡ blank maxChecks) × (r .dmin ≡ 0) × (r .counts ≡ blank 33) × (r .lightest ≡ 0) ⌝ }
+    ensures { λ r. ⌜ (r .answer ≡ answer) × (r .rows ≡ zeros maxRows) × (r .checks ≡ zeros maxChecks) × (r .dmin ≡ 0) × (r .counts ≡ zeros 33) × (r .lightest ≡ 0) ⌝ }
 {
     Description {
         answer,
@@ -36,7 +36,7 @@ fn refused(answer: Answer) -> Description
 
 // One elimination and one walk over the codewords.
 pub fn describe(n: u32, k: u32, rows: &[u32]) -> Description
-    ensures { λ r. ⌜ Described n k (now (rows .entry)) r ⌝ }
+    ensures { λ r. ⌜ DescriptionOf n k (now (rows .entry)) r ⌝ }
 {
     let c = code_of(n, k, rows);
     let a = c.answer;

@@ -3,7 +3,7 @@ use crate::walk::walk_all;
 use linear::accept::accept;
 use words::answer::Answer;
 use words::limits::WIDTH;
-ghost use Rattle.weights.specs.Described.{WeightsOf};
+ghost use Rattle.weights.specs.Description.{WeightsOf};
 
 // The answer to a matrix; where it is accepted, its minimum distance, how many codewords it has of each weight (0 past n), and a
 // codeword of weight dmin; 0 everywhere else.

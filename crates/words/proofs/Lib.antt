@@ -1,2 +1,4 @@
 pub mod ShapeLaws
 pub mod ListLaws
+pub mod AcceptedLaws
+pub mod CodeLaws

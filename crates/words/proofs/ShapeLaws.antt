@@ -1,14 +1,13 @@
 -- Laws of causes in order, and of the causes 1 to 3. Assumes nothing.
 use mathlib.Core.Path.{_≡_, refl, ap}
 use mathlib.Core.List.{List}
-use mathlib.Core.Bool.{Bool, true, false, not}
+use mathlib.Core.Bool.{Bool, true, false, not, _&&_}
 use Prim.Native.Nat.{ℕ, _+_, _^_}
 use native.Mathlib.Nat.{le-refl}
 use native.Mathlib.Omega.{arith}
 use lib.Dec.{eqb, leb, ltb}
 use lib.ListN.{length, getD}
 use borrow.Author.Tests.{leb-true, le-leb, eqb-true, eq-eqb, lt-ltb, ltb-true, not-false}
-use Rattle.coding.specs.Lists.{both}
 use Rattle.coding.specs.Matrix.{Inside}
 use Rattle.coding.proofs.SearchLaws.{first-is, first-before}
 use Rattle.words.specs.Limits.{maxPlaces, maxRows, maxChecks, InRange, inRange}
@@ -36,21 +35,21 @@ andThen-done (Refused c) later e = refused-done e
 
 -- ---- cause 1
 
-both-true : (a b : Bool) → both a b ≡ true → (a ≡ true) × (b ≡ true)
-both-true true b e = (refl, e)
-both-true false b e = let z : _≡_ {A = ℕ} 0 1 = cc in absurd (omega arith)
+and-true : (a b : Bool) → a && b ≡ true → (a ≡ true) × (b ≡ true)
+and-true true b e = (refl, e)
+and-true false b e = let z : _≡_ {A = ℕ} 0 1 = cc in absurd (omega arith)
 
 pub range-in : (n k : ℕ) → inRange n k ≡ true → InRange n k
 range-in n k e =
-    let e1 = both-true (leb 2 n) _ e in
-    let e2 = both-true (leb n maxPlaces) _ (e1 .1) in
-    let e3 = both-true (leb 1 k) _ (e2 .1) in
-    let e4 = both-true (leb k maxRows) _ (e3 .1) in
-    let e5 = both-true (leb (k + 1) n) _ (e4 .1) in
+    let e5 = and-true _ (leb n (k + maxChecks)) e in
+    let e4 = and-true _ (leb (k + 1) n) (e5 .0) in
+    let e3 = and-true _ (leb k maxRows) (e4 .0) in
+    let e2 = and-true _ (leb 1 k) (e3 .0) in
+    let e1 = and-true (leb 2 n) (leb n maxPlaces) (e2 .0) in
     record {
-      places = (leb-true 2 n (e1 .0), leb-true n maxPlaces (e2 .0));
-      rows = (leb-true 1 k (e3 .0), leb-true k maxRows (e4 .0));
-      checks = (leb-true (k + 1) n (e5 .0), leb-true n (k + maxChecks) (e5 .1));
+      places = (leb-true 2 n (e1 .0), leb-true n maxPlaces (e1 .1));
+      rows = (leb-true 1 k (e2 .1), leb-true k maxRows (e3 .1));
+      checks = (leb-true (k + 1) n (e4 .1), leb-true n (k + maxChecks) (e5 .1));
     }
 
 pub in-range : (n k : ℕ) → InRange n k → inRange n k ≡ true

@@ -1,8 +1,7 @@
 -- The limits of 01, "Words and matrices" and cause 6. No other definition has these numbers.
-use mathlib.Core.Bool.{Bool}
+use mathlib.Core.Bool.{Bool, _&&_}
 use Prim.Native.Nat.{ℕ, _+_, _≤_}
 use lib.Dec.{leb}
-use Rattle.coding.specs.Lists.{both}
 
 abbrev pub maxPlaces : ℕ
 maxPlaces = 28
@@ -24,4 +23,4 @@ pub record InRange (n k : ℕ) : Type 0 where
 
 -- the same as a test
 abbrev pub inRange : ℕ → ℕ → Bool
-inRange n k = both (leb 2 n) (both (leb n maxPlaces) (both (leb 1 k) (both (leb k maxRows) (both (leb (k + 1) n) (leb n (k + maxChecks))))))
+inRange n k = leb 2 n && leb n maxPlaces && leb 1 k && leb k maxRows && leb (k + 1) n && leb n (k + maxChecks)

@@ -22,13 +22,13 @@ Inv-loop checks reading words leaders out₀ counts₀ i₀ out counts i =
 abbrev μ-loop : tie.MeasureT-loop
 μ-loop checks reading words leaders out₀ counts₀ i₀ out counts i = length words - i
 
-mul-judged : tie.Need-mul-judged Inv-loop μ-loop
-mul-judged c =
+mul-outcome-of : tie.Need-mul-outcome-of Inv-loop μ-loop
+mul-outcome-of c =
     let s = c .before .before .before .before .before .before .before .before in
     scaled-fits _ (length (s .args .leaders .now)) 4 (rw (c .syndrome .ensures) (s .pre .1 _)) (s .good .1 .1 .1 .0 .1)
 
-shared-slice-read-judged : tie.Need-shared-slice-read-judged Inv-loop μ-loop
-shared-slice-read-judged c =
+shared-slice-read-outcome-of : tie.Need-shared-slice-read-outcome-of Inv-loop μ-loop
+shared-slice-read-outcome-of c =
     let s = c .before .before .before .before .before .before .before .before .before in
     rw (c .before .syndrome .ensures) (s .pre .1 _)
 
@@ -44,8 +44,8 @@ loop-again c =
     let h : l .i < length (a .words .now) = i .loop-test .taken in
     let w = getD words (l .i) 0 in
     let y = c .before .before .before .before .syndrome .ensures in
-    let o : c .before .before .judged .result ≡ outcomeOf (a .reading) w (getD (a .leaders .now) (syndrome (a .checks .now) w) 0)
-    = c .before .before .judged .ensures ∙ ap (λ (x : ℕ). outcomeOf (a .reading) w (getD (a .leaders .now) x 0)) y in (
+    let o : c .before .before .outcome-of .result ≡ outcomeOf (a .reading) w (getD (a .leaders .now) (syndrome (a .checks .now) w) 0)
+    = c .before .before .outcome-of .ensures ∙ ap (λ (x : ℕ). outcomeOf (a .reading) w (getD (a .leaders .now) x 0)) y in (
       omega arith,
       simp length-set (l .inv .1),
       simp length-set (l .inv .2),
@@ -76,6 +76,6 @@ pub decode-words-spec : {M : Type 1} → statement M
 decode-words-spec =
     tie.close
     (tie.spec Inv-loop μ-loop (λ c. search needs) (λ c. search needs) (λ c. search needs) (λ c κs. search needs) (λ c. search needs)
-    mul-judged shared-slice-read-judged (λ c κs. search needs) (λ c κs. search needs) (λ c. search needs) (λ c. search needs)
+    mul-outcome-of shared-slice-read-outcome-of (λ c κs. search needs) (λ c κs. search needs) (λ c. search needs) (λ c. search needs)
     (λ c κs. search needs) (λ c. search needs) (λ c. search needs) (λ c. search needs) loop-again (λ c. search needs)
     (λ c. search needs) returns)

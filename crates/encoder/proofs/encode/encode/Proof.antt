@@ -2,7 +2,7 @@
 use mathlib.Core.Path.{sym, _∙_}
 use lib.ListN.{length}
 use Rattle.coding.specs.Matrix.{encode}
-use Rattle.linear.specs.Accepted.{matrixAnswer}
+use Rattle.words.specs.Accepted.{matrixAnswer}
 use Rattle.words.specs.Lists.{listAnswer}
 use Rattle.words.proofs.ListLaws.{list-in, stays, goes, kept, written}
 use Rattle.encoder.proofs.EncoderLaws.{encoded}

@@ -7,13 +7,12 @@ use Rattle.coding.specs.Lists.{padded}
 use Rattle.coding.specs.Matrix.{messageOf}
 use Rattle.coding.specs.Check.{checks}
 use Rattle.words.specs.Limits.{maxChecks}
-use Rattle.linear.specs.Accepted.{matrixAnswer}
+use Rattle.words.specs.Accepted.{matrixAnswer}
 use Rattle.words.specs.Lists.{listAnswer}
 use Rattle.encoder.specs.MessagesRead.{firstOther}
-use Rattle.linear.proofs.AcceptLaws.{accepted-in}
-use Rattle.encoder.proofs.EncoderLaws.{messages-are}
+use Rattle.words.proofs.AcceptedLaws.{accepted-in}
+use Rattle.encoder.proofs.EncoderLaws.{messages-are, messages-read, other-refuses, other-passes, past, other-found}
 use Rattle.words.proofs.ListLaws.{list-in, stays, goes, kept, written}
-use Rattle.encoder.proofs.EncoderLaws.{messages-read, other-refuses, other-passes, past, other-found}
 use borrow.Author.Needs.{needs}
 use Rattle.encoder.proofs.message.message.Statement.{statement}
 use Rattle.encoder.proofs.message.message.Tie as tie

@@ -19,7 +19,7 @@ returns-2 c =
     let p = c .before in
     let s = p .before .before in
     let w = s .before .args .received in
-    c .judged .ensures
+    c .outcome-of .ensures
     ∙ outcome-is w (s .before .pre) (p .error-pattern .result) (subst (λ (t : ℕ). ErrorPattern t (p .error-pattern .result)) (s .syndrome .ensures) (p .error-pattern .ensures))
 
 pub outcome-spec : {M : Type 1} → statement M

@@ -1,14 +1,14 @@
 -- `hsiao::columns::numbered`: n is the number of the column s among the first i, 0 where it is not there. Assumes nothing.
 use mathlib.Core.Path.{_≡_, refl, sym, ap, _∙_}
 use mathlib.Core.Logic.{⊎-elim}
-use mathlib.Core.Bool.{Bool, false}
+use mathlib.Core.Bool.{Bool, false, cond}
 use Prim.Native.Nat.{ℕ, suc, _≤_, _<_, _-_, _+_}
 use native.Mathlib.Nat.{zero-add}
 use native.Mathlib.Omega.{arith}
 use lib.Dec.{eqb, ltb}
 use lib.ListN.{length, getD}
 use borrow.Author.Tests.{eq-eqb, ne-eqb}
-use Rattle.coding.specs.Lists.{pick, first}
+use Rattle.coding.specs.Lists.{first}
 use Rattle.hsiao.specs.Table.{columns}
 use Rattle.hsiao.proofs.TableLaws.{columns-odd, columns-length}
 use Rattle.hsiao.proofs.PlaceLaws.{numberBelow, number-none, number-found, number-passed}
@@ -63,7 +63,7 @@ returns c =
     let l = c .before .loop in
     let s = c .before .before .args .s in
     let e : l .i ≡ 64 = omega (arith, c .loop-test .left, l .inv .0) in
-    l .inv .1 ∙ ap (numberBelow (hit s)) e ∙ ap (λ (m : ℕ). pick (ltb (first (hit s) m) 64) (suc (first (hit s) m)) 0) (sym columns-length)
+    l .inv .1 ∙ ap (numberBelow (hit s)) e ∙ ap (λ (m : ℕ). cond (ltb (first (hit s) m) 64) (suc (first (hit s) m)) 0) (sym columns-length)
 
 pub numbered-spec : {M : Type 1} → statement M
 numbered-spec =

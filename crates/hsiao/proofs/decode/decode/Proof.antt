@@ -13,14 +13,14 @@ returns : tie.Need-returns
 returns c =
     let j = c .before .before in
     let w = j .before .args .w in
-    let e = j .judged .ensures .0 in
+    let e = j .outcome-of .ensures .0 in
     let f : c .before .word-in .result ≡ wordIn (outcomeOf w) w = c .before .word-in .ensures ∙ ap (λ (o : Outcome). wordIn o w) e in
     let g : c .count-in .result ≡ countIn (outcomeOf w) = c .count-in .ensures ∙ ap countIn e in
     record {
       word = f;
       count = g;
       minimum = distance-four;
-      within = rw (f, g) (radius-one 8 columns columns-odd w (j .judged .ensures .1));
+      within = rw (f, g) (radius-one 8 columns columns-odd w (j .outcome-of .ensures .1));
       clean = rw g (told 8 columns w (syndromeOf w) .0);
       far = rw g (told 8 columns w (syndromeOf w) .1);
     }

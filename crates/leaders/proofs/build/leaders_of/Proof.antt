@@ -7,9 +7,10 @@ use lib.Seq.{length-take-le}
 use Rattle.coding.specs.Lists.{padded}
 use Rattle.coding.specs.Check.{checks}
 use Rattle.words.specs.Limits.{maxChecks}
-use Rattle.linear.specs.Accepted.{Accepted}
-use Rattle.linear.proofs.AcceptLaws.{accepted-in}
-use Rattle.leaders.proofs.BuiltLaws.{checks-below, leaders-are}
+use Rattle.words.specs.Accepted.{Accepted}
+use Rattle.words.proofs.AcceptedLaws.{accepted-in}
+use Rattle.words.proofs.CodeLaws.{checks-below}
+use Rattle.leaders.proofs.BuiltLaws.{leaders-are}
 use Rattle.leaders.proofs.PromiseLaws.{matrix-refuses, leaders-refused, size-is, short-refuses, leaders-written}
 use borrow.Author.Needs.{needs}
 use Rattle.leaders.proofs.build.leaders_of.Statement.{statement}

@@ -1,6 +1,6 @@
 -- `linear::accept::accept`: the answer of the reduction, in the words of part 1. Assumes nothing.
 use mathlib.Core.Path.{sym, _∙_}
-use Rattle.linear.proofs.AcceptLaws.{accepted-in, in-accepted, found-in}
+use Rattle.words.proofs.AcceptedLaws.{accepted-in, in-accepted, found-in}
 use borrow.Author.Needs.{needs}
 use Rattle.linear.proofs.accept.accept.Statement.{statement}
 use Rattle.linear.proofs.accept.accept.Tie as tie

@@ -12,9 +12,10 @@ use Rattle.coding.proofs.WidthLaws.{inside-wide}
 use Rattle.words.specs.declared.answer.Refusal.the-variants.{Dependent}
 use Rattle.words.specs.declared.answer.Answer.the-variants.{Done, Refused}
 use Rattle.words.proofs.ShapeLaws.{Shaped, shape-in}
-use Rattle.linear.proofs.AcceptLaws.{shape-refused, ends-dependent, ends-done, accepted-in}
-use Rattle.linear.specs.Accepted.{matrixAnswer}
-use Rattle.linear.proofs.TableLaws.{reduction-done, reduction-refused, rows-are, compact-is}
+use Rattle.words.proofs.AcceptedLaws.{shape-refused, ends-dependent, ends-done, accepted-in}
+use Rattle.words.specs.Accepted.{matrixAnswer}
+use Rattle.linear.proofs.TableLaws.{reduction-done, reduction-refused, compact-is}
+use Rattle.words.proofs.CodeLaws.{rows-are}
 use borrow.Author.Needs.{needs}
 use native.Mathlib.Omega.{arith}
 use Rattle.linear.proofs.reduce.reduce.Statement.{statement}

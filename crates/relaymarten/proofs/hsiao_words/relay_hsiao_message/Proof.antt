@@ -6,7 +6,7 @@ use Rattle.relaymarten.proofs.hsiao_words.relay_hsiao_message.Tie as ti
 
 returns : tie.Need-returns
 returns c =
-    let C = c .before .before .read .ensures in
+    let C = c .before .before .message .ensures in
     told _ (C .answer) C (c .tell .ensures .0) (c .tell .ensures .1)
 
 pub relay-hsiao-message-spec : {M : Type 1} → statement M

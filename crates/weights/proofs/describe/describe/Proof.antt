@@ -1,9 +1,9 @@
 -- `weights::describe::describe`: what the code gives, and the walk. Assumes nothing.
 use mathlib.Core.Path.{sym, _∙_}
 use native.Mathlib.Omega.{arith}
-use Rattle.linear.proofs.AcceptLaws.{accepted-in}
+use Rattle.words.proofs.AcceptedLaws.{accepted-in}
 use Rattle.linear.proofs.TableLaws.{reduced-rows}
-use Rattle.checks.proofs.ChecksLaws.{parity-checks}
+use Rattle.parity.proofs.ChecksLaws.{parity-checks}
 use Rattle.weights.proofs.DescribeLaws.{walked-weights, refused-weights}
 use borrow.Author.Needs.{needs}
 use Rattle.weights.proofs.describe.describe.Statement.{statement}

@@ -1,0 +1,135 @@
+-- Laws of the causes of Decode: which group refuses, and what is known when none does. Assumes nothing.
+use mathlib.Core.Path.{_≡_, refl}
+use mathlib.Core.List.{List}
+use mathlib.Core.Bool.{Bool, true, false}
+use Prim.Native.Nat.{ℕ, _+_, _-_, _*_, _/_, _^_, _≤_, _<_, min}
+use native.Mathlib.Omega.{arith}
+use lib.Dec.{eqb, leb}
+use lib.ListN.{length}
+use borrow.Author.Tests.{leb-true, le-leb, lt-leb}
+use Rattle.coding.specs.Matrix.{firstDependent}
+use Rattle.coding.specs.Weight.{dmin}
+use Rattle.words.specs.Limits.{maxWords, inRange}
+use Rattle.words.specs.Refusal.{numberOf, unless, andThen, ifDone}
+use Rattle.words.specs.Shape.{firstOutside, shapeAnswer}
+use Rattle.words.specs.Accepted.{matrixAnswer}
+use Rattle.words.specs.Lists.{listAnswer}
+use Rattle.words.specs.declared.answer.Refusal.{Refusal}
+use Rattle.words.specs.declared.answer.Refusal.the-variants.{OutOfRange, RowCount, RowOutside, Dependent, RadiusTooLarge, TooManyWords, WordOutside, ShortOutput, ShortWork}
+use Rattle.words.specs.declared.answer.Answer.{Answer}
+use Rattle.words.specs.declared.answer.Answer.the-variants.{Done, Refused}
+use Rattle.words.proofs.ShapeLaws.{unless-done, andThen-done}
+use Rattle.words.proofs.ListLaws.{Listed, list-in}
+use Rattle.weights.specs.Description.{WeightsOf}
+use Rattle.weights.specs.declared.weights.Weights.{Weights}
+use Rattle.decoder.specs.Causes.{radiusAnswer, listsAnswer, decodeAnswer}
+use Rattle.leaders.specs.Leaders.{workAnswer}
+use Rattle.outcomes.specs.declared.outcome.Reading.{Reading}
+use Rattle.outcomes.specs.declared.outcome.Reading.the-variants.{Nearest, Within}
+
+-- ---- cause 5 by half of dmin - 1
+
+pub radius-large : (r d : ℕ) → 1 ≤ d → (d - 1) / 2 < r → Refused RadiusTooLarge ≡ radiusAnswer (Within r) d
+radius-large r d h l = simp (lt-leb (2 * r + 1) d (omega arith))
+
+pub radius-fits : (r d : ℕ) → 1 ≤ d → r ≤ (d - 1) / 2 → Done ≡ radiusAnswer (Within r) d
+radius-fits r d h l = simp (le-leb (2 * r + 1) d (omega arith))
+
+pub radius-in : (r d : ℕ) → radiusAnswer (Within r) d ≡ Done → 2 * r + 1 ≤ d
+radius-in r d e = leb-true (2 * r + 1) d (unless-done (leb (2 * r + 1) d) RadiusTooLarge Done e .0)
+
+-- what the walk leaves known of an accepted matrix
+pub measured-is : {n k : ℕ} {rows : List ℕ} {w : Weights} → WeightsOf n k rows w → w .answer ≡ Done → (w .dmin ≡ dmin rows) × (1 ≤ w .dmin)
+measured-is {rows = rows} {w = w} W d =
+    let e : w .dmin ≡ dmin rows = rw d at (W .dmin-is) in
+    (e, rw e (W .distance d .bounds .0))
+
+-- a refusal has no dmin beside it
+pub no-dmin : (a : Answer) (c : Refusal) (d : ℕ) → a ≡ Refused c → 0 ≡ ifDone a d 0
+no-dmin a c d e = rw e refl
+
+-- ---- causes 6 to 9
+
+module _ (n k : ℕ) (words : List ℕ) (slots bytes room : ℕ) where
+  pub at-list : (c : Refusal) → listAnswer words n (min slots bytes) ≡ Refused c → Refused c ≡ listsAnswer n k words slots bytes room
+  unfolding listsAnswer
+  at-list c e = rw e refl
+
+  pub at-work : listAnswer words n (min slots bytes) ≡ Done → workAnswer room (2 ^ (n - k)) ≡ listsAnswer n k words slots bytes room
+  unfolding listsAnswer
+  at-work e = rw e refl
+
+-- ---- the groups in order
+
+module _ (n k : ℕ) (rows : List ℕ) (reading : Reading) (words : List ℕ) (slots bytes room : ℕ) where
+  pub at-matrix : (c : Refusal) → matrixAnswer n k rows ≡ Refused c → Refused c ≡ decodeAnswer n k rows reading words slots bytes room
+  unfolding decodeAnswer
+  at-matrix c e = rw e refl
+
+  module _ (m : matrixAnswer n k rows ≡ Done) where
+    pub at-radius : (c : Refusal) → radiusAnswer reading (dmin rows) ≡ Refused c → Refused c ≡ decodeAnswer n k rows reading words slots bytes room
+    unfolding decodeAnswer
+    at-radius c e = rw (m, e) refl
+
+    pub at-lists : radiusAnswer reading (dmin rows) ≡ Done → listsAnswer n k words slots bytes room ≡ decodeAnswer n k rows reading words slots bytes room
+    unfolding decodeAnswer
+    at-lists q = rw (m, q) refl
+
+  -- what is known when causes 1 to 9 have passed
+  pub record Passed : Type 0 where
+    pub matrix : matrixAnswer n k rows ≡ Done
+    pub radius : radiusAnswer reading (dmin rows) ≡ Done
+    pub listed : Listed words n (min slots bytes)
+    pub work : 2 ^ (n - k) ≤ room
+
+  pub batch-in : decodeAnswer n k rows reading words slots bytes room ≡ Done → Passed
+  unfolding decodeAnswer listsAnswer
+  batch-in e =
+      let (a, e1) = andThen-done (matrixAnswer n k rows) _ e in
+      let (b, e2) = andThen-done (radiusAnswer reading (dmin rows)) _ e1 in
+      let (c, e3) = andThen-done (listAnswer words n (min slots bytes)) _ e2 in
+      record {
+        matrix = a;
+        radius = b;
+        listed = list-in words n (min slots bytes) c;
+        work = leb-true (2 ^ (n - k)) room (unless-done (leb (2 ^ (n - k)) room) ShortWork Done e3 .0);
+      }
+
+-- ---- each of these causes has a number from 1 to 9
+
+abbrev OneToNine : Answer → Type 0
+OneToNine Done = Unit {0}
+OneToNine (Refused c) = (1 ≤ numberOf c) × (numberOf c ≤ 9)
+
+unless-numbered : (b : Bool) (c : Refusal) (later : Answer) → (1 ≤ numberOf c) × (numberOf c ≤ 9) → OneToNine later → OneToNine (unless b c later)
+unless-numbered true c later h f = f
+unless-numbered false c later h f = h
+
+andThen-numbered : (a later : Answer) → OneToNine a → OneToNine later → OneToNine (andThen a later)
+andThen-numbered Done later f g = g
+andThen-numbered (Refused c) later f g = f
+
+radius-numbered : (reading : Reading) (d : ℕ) → OneToNine (radiusAnswer reading d)
+radius-numbered Nearest d = tt
+radius-numbered (Within r) d = unless-numbered (leb (2 * r + 1) d) RadiusTooLarge Done (omega arith, omega arith) tt
+
+decode-numbered : (n k : ℕ) (rows : List ℕ) (reading : Reading) (words : List ℕ) (slots bytes room : ℕ)
+    → OneToNine (decodeAnswer n k rows reading words slots bytes room)
+unfolding decodeAnswer matrixAnswer shapeAnswer listsAnswer listAnswer
+decode-numbered n k rows reading words slots bytes room =
+    andThen-numbered (matrixAnswer n k rows) _
+    (andThen-numbered (shapeAnswer n k rows) _
+    (unless-numbered (inRange n k) OutOfRange _ (omega arith, omega arith)
+    (unless-numbered (eqb (length rows) k) RowCount _ (omega arith, omega arith)
+    (unless-numbered (eqb (firstOutside n rows) (length rows)) (RowOutside (firstOutside n rows)) Done (omega arith, omega arith) tt)))
+    (unless-numbered (eqb (firstDependent rows) (length rows)) (Dependent (firstDependent rows)) Done (omega arith, omega arith) tt))
+    (andThen-numbered (radiusAnswer reading (dmin rows)) _ (radius-numbered reading (dmin rows))
+    (andThen-numbered (listAnswer words n (min slots bytes)) _
+    (unless-numbered (leb (length words) maxWords) TooManyWords _ (omega arith, omega arith)
+    (unless-numbered (eqb (firstOutside n words) (length words)) (WordOutside (firstOutside n words)) _ (omega arith, omega arith)
+    (unless-numbered (leb (length words) (min slots bytes)) ShortOutput Done (omega arith, omega arith) tt)))
+    (unless-numbered (leb (2 ^ (n - k)) room) ShortWork Done (omega arith, omega arith) tt)))
+
+pub refused-number : (n k : ℕ) (rows : List ℕ) (reading : Reading) (words : List ℕ) (slots bytes room : ℕ) (c : Refusal)
+    → decodeAnswer n k rows reading words slots bytes room ≡ Refused c → (1 ≤ numberOf c) × (numberOf c ≤ 9)
+refused-number n k rows reading words slots bytes room c e = rw e at (decode-numbered n k rows reading words slots bytes room)

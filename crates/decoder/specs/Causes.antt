@@ -1,0 +1,28 @@
+-- The causes of Decode, in order: 1 to 4, 5 within a radius, 6 to 8, and 9.
+use mathlib.Core.List.{List}
+use Prim.Native.Nat.{ℕ, _+_, _-_, _*_, _^_, min}
+use lib.Dec.{leb}
+use Rattle.coding.specs.Weight.{dmin}
+use Rattle.words.specs.Refusal.{unless, andThen}
+use Rattle.words.specs.Accepted.{matrixAnswer}
+use Rattle.words.specs.Lists.{listAnswer}
+use Rattle.words.specs.declared.answer.Refusal.the-variants.{RadiusTooLarge}
+use Rattle.words.specs.declared.answer.Answer.{Answer}
+use Rattle.words.specs.declared.answer.Answer.the-variants.{Done}
+use Rattle.leaders.specs.Leaders.{workAnswer}
+use Rattle.outcomes.specs.declared.outcome.Reading.{Reading}
+use Rattle.outcomes.specs.declared.outcome.Reading.the-variants.{Nearest, Within}
+
+-- cause 5: a radius r with 2 r + 1 above dmin
+abbrev pub radiusAnswer : Reading → ℕ → Answer
+radiusAnswer Nearest d = Done
+radiusAnswer (Within r) d = unless (leb (2 * r + 1) d) RadiusTooLarge Done
+
+-- causes 6 to 9; both output lists are as long as the words
+unfoldable pub listsAnswer : ℕ → ℕ → List ℕ → ℕ → ℕ → ℕ → Answer
+listsAnswer n k words slots bytes room = andThen (listAnswer words n (min slots bytes)) (workAnswer room (2 ^ (n - k)))
+
+-- causes 1 to 9: all causes of Decode
+unfoldable pub decodeAnswer : ℕ → ℕ → List ℕ → Reading → List ℕ → ℕ → ℕ → ℕ → Answer
+decodeAnswer n k rows reading words slots bytes room =
+    andThen (matrixAnswer n k rows) (andThen (radiusAnswer reading (dmin rows)) (listsAnswer n k words slots bytes room))

@@ -1,0 +1,18 @@
+-- Causes 1 to 4: what the call that judges a matrix answers.
+use mathlib.Core.Path.{_≡_}
+use mathlib.Core.List.{List}
+use Prim.Native.Nat.{ℕ}
+use lib.ListN.{getD, take}
+use Rattle.coding.specs.Matrix.{Codeword, Independent}
+use Rattle.words.specs.Accepted.{matrixAnswer, Accepted}
+use Rattle.words.specs.declared.answer.Refusal.the-variants.{Dependent}
+use Rattle.words.specs.declared.answer.Answer.{Answer}
+use Rattle.words.specs.declared.answer.Answer.the-variants.{Done, Refused}
+
+-- the answer to a matrix: it is accepted exactly when it meets those demands, and the row found by cause 4 is a sum of earlier
+-- rows, which are independent
+pub record Judged (n k : ℕ) (rows : List ℕ) (r : Answer) : Type 0 where
+  pub answer : r ≡ matrixAnswer n k rows
+  pub accepted : r ≡ Done → Accepted n k rows
+  pub accepts : Accepted n k rows → r ≡ Done
+  pub found : (i : ℕ) → r ≡ Refused (Dependent i) → Codeword (take i rows) (getD rows i 0) × Independent (take i rows)

@@ -1,0 +1,145 @@
+// Part 2: parity-check rows and syndromes.
+use linear::reduce::reduce;
+use words::answer::Answer;
+use words::limits::MAX_CHECKS;
+use words::limits::MAX_ROWS;
+use words::limits::WIDTH;
+use words::word::parity;
+use words::word::place;
+ghost use mathlib.Core.Path.{_≡_};
+ghost use mathlib.Core.Bool.{true};
+ghost use mathlib.Core.List.{map};
+ghost use Prim.Native.Nat.{_-_, _≤_};
+ghost use lib.ListN.{length, take, drop};
+ghost use Rattle.coding.specs.Lists.{zeros, padded};
+ghost use Rattle.coding.specs.Reduced.{freesFrom};
+ghost use Rattle.coding.specs.Check.{column, check, syndrome};
+ghost use Rattle.words.specs.Limits.{maxChecks};
+ghost use Rattle.parity.specs.ParityChecks.{CodeOf, ParityChecksOf};
+
+// The answer to a matrix, and where it is accepted its n - k check rows; 0 at every other entry.
+pub struct ParityChecks {
+    pub answer: Answer,
+    pub rows: [u32; MAX_CHECKS],
+}
+
+fn parities(checks: &[u32], w: u32) -> u32
+    requires { ⌜ length (now checks) ≤ 32 ⌝ }
+    ensures { λ r. ⌜ r ≡ syndrome (now (checks .entry)) w ⌝ }
+{
+    let mut s: u32 = 0;
+    let mut j: usize = checks.len();
+    while 0 < j {
+        j -= 1;
+        s = (s << 1) ^ parity(w, checks[j]);
+    }
+    s
+}
+
+// Whether every row from the fifth on is 0, as for a code with at most four check rows.
+fn few_rows(checks: &[u32]) -> bool
+    ensures { λ r. ⌜ (r ≡ true → drop 4 (now (checks .entry)) ≡ zeros (length (now (checks .entry)) - 4)) ⌝ }
+{
+    let mut j: usize = 4;
+    while j < checks.len() {
+        if checks[j] != 0 {
+            return false;
+        }
+        j += 1;
+    }
+    true
+}
+
+// The parities by the first four rows.
+fn first_parities(checks: &[u32], w: u32) -> u32
+    requires { ⌜ 4 ≤ length (now checks) ⌝ }
+    ensures { λ r. ⌜ r ≡ syndrome (take 4 (now (checks .entry))) w ⌝ }
+{
+    parities(&checks[..4], w)
+}
+
+// Bit j is the parity of the word's places where check row j has a 1; a row that is 0 has parity 0.
+pub fn syndrome(checks: &[u32; MAX_CHECKS], w: u32) -> u32
+    ensures { λ r. ⌜ r ≡ syndrome (now (checks .entry)) w ⌝ }
+{
+    if few_rows(checks) {
+        return first_parities(checks, w);
+    }
+    parities(checks, w)
+}
+
+// Place q of each row.
+fn column(rows: &[u32], q: u32) -> u32
+    requires { ⌜ length (now rows) ≤ 32 ⌝ }
+    ensures { λ r. ⌜ r ≡ column (now (rows .entry)) q ⌝ }
+{
+    let mut c: u32 = 0;
+    let mut p: usize = rows.len();
+    while 0 < p {
+        p -= 1;
+        c = (c << 1) ^ place(rows[p], q);
+    }
+    c
+}
+
+// The check rows of the places below n that are no pivot, in rising order.
+fn check_rows(table: &[u32], n: usize) -> [u32; MAX_CHECKS]
+    requires { ⌜ (length (now table) ≡ 32) × (n ≤ 32) × (length (freesFrom 0 (take n (now table))) ≤ maxChecks) ⌝ }
+    ensures { λ r. ⌜ r ≡ padded maxChecks (map (check (now (table .entry))) (freesFrom 0 (take n (now (table .entry))))) ⌝ }
+{
+    let mut checks = [0u32; MAX_CHECKS];
+    let mut j: usize = 0;
+    let mut q: usize = 0;
+    while q < n {
+        if table[q] == 0 {
+            checks[j] = (1u32 << q) ^ column(table, q as u32);
+            j += 1;
+        }
+        q += 1;
+    }
+    checks
+}
+
+// What parts 1 and 2 give for an accepted matrix: its reduced rows, its check rows, and beside each pivot a message that has the reduced row of
+// that pivot as its codeword; 0 at every other entry.
+pub struct Code {
+    pub answer: Answer,
+    pub rows: [u32; MAX_ROWS],
+    pub checks: [u32; MAX_CHECKS],
+    pub messages: [u32; WIDTH],
+}
+
+pub fn code_of(n: u32, k: u32, rows: &[u32]) -> Code
+    ensures { λ r. ⌜ CodeOf n k (now (rows .entry)) r ⌝ }
+{
+    let r = reduce(n, k, rows);
+    let answer = r.answer;
+    let Answer::Done = answer else {
+        return Code {
+            answer,
+            rows: [0u32; MAX_ROWS],
+            checks: [0u32; MAX_CHECKS],
+            messages: [0u32; WIDTH],
+        };
+    };
+    let table = r.table;
+    let checks = check_rows(&table, n as usize);
+    let rows = r.rows;
+    let messages = r.messages;
+    Code {
+        answer: Answer::Done,
+        rows,
+        checks,
+        messages,
+    }
+}
+
+// The parity-check rows of an accepted matrix.
+pub fn parity_checks(n: u32, k: u32, rows: &[u32]) -> ParityChecks
+    ensures { λ r. ⌜ ParityChecksOf n k (now (rows .entry)) r ⌝ }
+{
+    let c = code_of(n, k, rows);
+    let answer = c.answer;
+    let rows = c.checks;
+    ParityChecks { answer, rows }
+}

@@ -1,0 +1,31 @@
+-- 01, part 3 and Describe: what the calls for the weights and for the whole description answer.
+use mathlib.Core.Path.{_≡_}
+use mathlib.Core.List.{List}
+use Prim.Native.Nat.{ℕ, _^_}
+use Rattle.coding.specs.Lists.{zeros, padded, total}
+use Rattle.coding.specs.Weight.{weightCounts, dmin, MinimumDistance, Lightest}
+use Rattle.words.specs.Refusal.{ifDone}
+use Rattle.words.specs.Accepted.{matrixAnswer}
+use Rattle.linear.specs.ReducedRows.{ReducedRowsOf}
+use Rattle.parity.specs.ParityChecks.{ParityChecksOf}
+use Rattle.words.specs.declared.answer.Answer.the-variants.{Done}
+use Rattle.weights.specs.declared.weights.Weights.{Weights}
+use Rattle.weights.specs.declared.describe.Description.{Description}
+
+-- causes 1 to 4; for an accepted matrix the minimum distance and the counts of the definitions (0 past n), which is the least weight
+-- of a nonzero codeword and the least distance of two codewords; the counts add to 2 ^ k; and the lightest word, the one part that
+-- 01 leaves open, is a nonzero codeword of that weight. On a refusal every other part is 0
+pub record WeightsOf (n k : ℕ) (rows : List ℕ) (r : Weights) : Type 0 where
+  pub answer : r .answer ≡ matrixAnswer n k rows
+  pub dmin-is : r .dmin ≡ ifDone (r .answer) (dmin rows) 0
+  pub counts-are : r .counts ≡ ifDone (r .answer) (padded 33 (weightCounts n rows)) (zeros 33)
+  pub distance : r .answer ≡ Done → MinimumDistance n rows (dmin rows)
+  pub sum : r .answer ≡ Done → total (weightCounts n rows) ≡ 2 ^ k
+  pub lightest : r .answer ≡ Done → Lightest rows (r .lightest)
+  pub none : r .lightest ≡ ifDone (r .answer) (r .lightest) 0
+
+-- Describe: the reduced rows and the check rows as the linear algebra states them, and the weights
+pub record DescriptionOf (n k : ℕ) (rows : List ℕ) (r : Description) : Type 0 where
+  pub reduced : ReducedRowsOf n k rows (record { answer = r .answer; rows = r .rows })
+  pub checks : ParityChecksOf n k rows (record { answer = r .answer; rows = r .checks })
+  pub weights : WeightsOf n k rows (record { answer = r .answer; dmin = r .dmin; counts = r .counts; lightest = r .lightest })
