@@ -5,8 +5,8 @@ use mathlib.Core.Logic.{_≢_}
 use mathlib.Core.List.{List, [], _∷_, _++_, map}
 use mathlib.Core.Option.{Option, none, some}
 use mathlib.Core.Bool.{Bool, true, false, not, cond, _&&_}
-use Prim.Native.Nat.{ℕ, zero, suc, _+_, _-_, _*_, _%_, _^_, _≤_, _<_, suc-le-suc}
-use native.Mathlib.Nat.{pow-suc, add-assoc, add-zero, one-mul, mod-eq-of-lt}
+use Prim.Native.Nat.{ℕ, zero, suc, _+_, _-_, _^_, _<_, suc-le-suc}
+use native.Mathlib.Nat.{pow-suc, add-assoc, add-zero}
 use native.Mathlib.Numerals.{add-one}
 use native.Mathlib.Decide.{ℕ-discrete}
 use native.Mathlib.Omega.{arith}
@@ -21,12 +21,13 @@ use Rattle.coding.specs.Matrix.{Inside}
 use Rattle.coding.specs.Check.{frees}
 use Rattle.coding.specs.Leader.{syndromeOf, noLeader, orNoLeader, having, leaderOf}
 use Rattle.coding.specs.Weight.{count}
-use Rattle.coding.specs.Order.{words, order, fill, fills, blanks, blankCount}
+use Rattle.coding.specs.Order.{words, order, fill, fills, blanks}
+use Rattle.coding.specs.Inner.Blanks.{blankCount}
 use Rattle.coding.proofs.WeightLaws.{weight-zero}
 use Rattle.coding.proofs.CountLaws.{count-without, count-same, count-some, count-all}
-use Rattle.coding.proofs.LeaderLaws.{lightest-one}
+use Rattle.coding.proofs.LightestLaws.{lightest-one}
 use Rattle.coding.proofs.OrderLaws.{firstIn, pickFirst, weight-top, InOrder, first-lightest}
-use Rattle.coding.proofs.DecodeLaws.{leader-lightest, leader-light}
+use Rattle.coding.proofs.LeaderLaws.{leader-lightest, leader-light}
 
 suc-less : (k : ℕ) → suc k - 1 ≡ k
 suc-less k = omega arith
@@ -163,24 +164,11 @@ fills-step syn L (suc m) (suc t) a h k =
     ∙ fills-append syn L (map (λ w. a + w) (words m (suc t))) (map (λ w. a + w) (map (λ w. 2 ^ m + w) (words m t)))
     ∙ ap (fills syn (fills syn L (map (λ w. a + w) (words m (suc t))))) (map-shift a (2 ^ m) (words m t))))
 
-pub fills-none : (syn : ℕ → ℕ) (L : List ℕ) (t a : ℕ) → 0 < t → L ≡ fills syn L (map (λ w. a + w) (words 0 t))
-fills-none syn L zero a h = absurd (omega arith)
-fills-none syn L (suc t) a h = refl
-
-pub fills-one : (syn : ℕ → ℕ) (L : List ℕ) (m a : ℕ) → fill syn L a ≡ fills syn L (map (λ w. a + w) (words m 0))
-fills-one syn L m a = ap (fill syn L) (sym (add-zero a))
-
 pub fill-blank : (syn : ℕ → ℕ) (L : List ℕ) (w : ℕ) → getD L (syn w) 0 ≡ noLeader → fill syn L w ≡ set L (syn w) w
 fill-blank syn L w e = ap (λ (b : Bool). cond b (set L (syn w) w) L) (eq-eqb (getD L (syn w) 0) (noLeader) e)
 
 pub fill-held : (syn : ℕ → ℕ) (L : List ℕ) (w : ℕ) → getD L (syn w) 0 ≢ noLeader → fill syn L w ≡ L
 fill-held syn L w ne = ap (λ (b : Bool). cond b (set L (syn w) w) L) (ne-eqb (getD L (syn w) 0) (noLeader) ne)
-
--- the highest of m places, below a prefix that leaves them room
-pub top-place : (m a : ℕ) → 0 < m → a + 2 ^ m ≤ 2 ^ 32 → (1 * 2 ^ (m - 1) % 2 ^ 32 ≡ 2 ^ (m - 1)) × (a + 2 ^ (m - 1) + 2 ^ (m - 1) ≤ 2 ^ 32)
-top-place zero a h l = absurd (omega arith)
-top-place (suc m) a h l =
-    rw (suc-less m) (ap (λ (x : ℕ). x % 2 ^ 32) (one-mul (2 ^ m)) ∙ mod-eq-of-lt (omega (arith, pow-suc 2 m, pow-pos m)), omega (arith, pow-suc 2 m))
 
 -- ---- ending sooner: fewer places than weight leave no word, and a list with no blank entry does not change
 

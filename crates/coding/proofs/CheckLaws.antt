@@ -11,7 +11,7 @@ use lib.Seq.{drop-cons}
 use lib.Pow.{pow-mono}
 use Rattle.coding.specs.Word.{_⊕_, bit, parity}
 use Rattle.coding.specs.Matrix.{sel, encode}
-use Rattle.coding.specs.Reduced.{rest, freesFrom}
+use Rattle.coding.specs.Reduce.{rest, freesFrom}
 use Rattle.coding.specs.Check.{places, column, check, syndrome}
 use Rattle.coding.proofs.WordLaws.{bit-lt, bit-half, bit-of-zero, bit-xor, halves-eq, xor-half, xor-digit}
 use Rattle.coding.proofs.MachineLaws.{joined}
@@ -89,9 +89,6 @@ places-bit digit f (x ∷ l) zero h = omega (arith, cons-odd (digit x) (places d
 places-bit digit f (x ∷ l) (suc j) h =
     bit-half (places digit (x ∷ l)) j ∙ ap (λ (y : ℕ). bit y j) (cons-half (digit x) (places digit l) (f x))
     ∙ places-bit digit f l j (le-of-suc-le-suc h)
-
-pub syndrome-bit : (hs : List ℕ) (w j : ℕ) → j < length hs → bit (syndrome hs w) j ≡ parity w (getD hs j 0)
-syndrome-bit hs w = places-bit (parity w) (parity-lt w) hs
 
 -- a syndrome of 0 is a parity of 0 by each check row
 pub syndrome-each : (f : ℕ → ℕ) (rs : List ℕ) (i w : ℕ) → syndrome (map f (freesFrom i rs)) w ≡ 0 → (j : ℕ) → j < length rs → getD rs j 0 ≡ 0 → parity w (f (i + j)) ≡ 0

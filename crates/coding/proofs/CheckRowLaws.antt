@@ -1,7 +1,7 @@
 -- The check rows of a matrix are those of 01, part 2: a 1 at the own place, the reduced rows' values at the pivots, and nothing else.
 -- Assumes nothing.
+use mathlib.Core.Logic.{_↔_, _≢_}
 use mathlib.Core.Path.{_≡_, ap, _∙_}
-use mathlib.Core.Logic.{_≢_}
 use mathlib.Core.List.{List, [], _∷_}
 use Prim.Native.Nat.{ℕ, zero, suc, _+_, _%_, _^_, _<_}
 use native.Mathlib.Nat.{zero-add, le-of-suc-le-suc}
@@ -10,14 +10,15 @@ use lib.ListN.{length, getD}
 use lib.Pow.{pow-lt}
 use lib.Bits.{xor-lt}
 use Rattle.coding.specs.Word.{bit}
-use Rattle.coding.specs.Matrix.{Inside}
-use Rattle.coding.specs.Reduced.{reduce, rowsOf, pivotsFrom, freesFrom, reducedRows, pivots}
-use Rattle.coding.specs.Check.{column, check, checks, frees, FreePlaces, CheckRow}
+use Rattle.coding.specs.Matrix.{Inside, Codeword}
+use Rattle.coding.specs.Reduce.{reduce, rowsOf, pivotsFrom, freesFrom, reducedRows, pivots}
+use Rattle.coding.specs.Check.{column, check, checks, frees, FreePlaces, CheckRow, syndrome}
 use Rattle.coding.proofs.WordLaws.{bit-lt, bit-of-zero, bit-xor, bit-pow, bit-pow-other}
 use Rattle.coding.proofs.ListLaws.{getD-map}
 use Rattle.coding.proofs.CheckLaws.{places-lt, places-bit}
 use Rattle.coding.proofs.CompactLaws.{rows-count, rows-from, frees-from}
-use Rattle.coding.proofs.ReduceLaws.{whole}
+use Rattle.coding.proofs.ReduceLaws.{whole, codeword-kept, kept-codeword}
+use Rattle.coding.proofs.PivotLaws.{syndrome-kept, kept-syndrome}
 use Rattle.coding.proofs.EchelonLaws.{reducedRows-form}
 
 frees-rise : (p : ℕ) (B : List ℕ) (i j : ℕ) → i < j → j < length (freesFrom p B) → getD (freesFrom p B) i 0 < getD (freesFrom p B) j 0
@@ -76,3 +77,11 @@ check-rows n rs fits j h =
     let C : ℕ → Type 0 = λ q. CheckRow n (reducedRows n rs) (pivots n rs) (frees n rs) q (check B q) in
     rw (getD-map (check B) (frees n rs) j h)
     (frees-from C 0 B (λ q l z. rw (zero-add q) (rw size at (check-is B q l z))) j h)
+
+module _ (n : ℕ) (rs : List ℕ) (fits : Inside n rs) where
+  -- 01, part 2: a word of n places is a codeword exactly when its syndrome is 0
+  pub syndrome-codeword : (w : ℕ) → w < 2 ^ n → (syndrome (checks n rs) w ≡ 0) ↔ Codeword rs w
+  syndrome-codeword w h = (
+    λ e. kept-codeword n rs fits w (syndrome-kept n (reduce n rs) (whole n rs fits .reduced) w h e),
+    λ c. kept-syndrome (reduce n rs) w (codeword-kept n rs fits w c),
+  )

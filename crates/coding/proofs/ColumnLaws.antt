@@ -15,7 +15,7 @@ use Rattle.coding.specs.Word.{_⊕_, bit, weight, distance}
 use Rattle.coding.specs.Matrix.{sel, encode, Inside}
 use Rattle.coding.specs.Columns.{SplitWord, splitDistance, units, splitSyndrome, SplitPlaces, SplitCodeword, OddColumns, SplitMinimumDistance}
 use Rattle.coding.proofs.WordLaws.{xor-eq, xor-four, xor-assoc, xor-cancel-r, half-lt, bit-xor, bit-pow}
-use Rattle.coding.proofs.WeightLaws.{weight-zero, weight-none, weight-one, weight-xor-odd, weight-pow, weight-less, distance-sym, distance-self, distance-zero, distance-tri}
+use Rattle.coding.proofs.WeightLaws.{weight-zero, weight-none, weight-one, weight-xor-odd, weight-pow, weight-less, distance-sym, distance-self, distance-tri}
 use Rattle.coding.proofs.MatrixLaws.{encode-xor, encode-zero, encode-lt, row-message}
 use Rattle.coding.proofs.ReduceLaws.{IsLead, is-lead}
 use Rattle.coding.proofs.LinearLaws.{identity-rows}
@@ -41,9 +41,6 @@ split-distance-tri a b c = omega (arith, distance-tri (a .check) (b .check) (c .
 
 pub split-distance-self : (a : SplitWord) → splitDistance a a ≡ 0
 split-distance-self a = omega (arith, distance-self (a .check), distance-self (a .info))
-
-pub split-distance-zero : (a b : SplitWord) → splitDistance a b ≡ 0 → a ≡ b
-split-distance-zero a b e = split-same (distance-zero (a .check) (b .check) (omega arith)) (distance-zero (a .info) (b .info) (omega arith))
 
 -- the syndrome of a sum is the sum of the syndromes
 pub split-syndrome-xor : (c : ℕ) (cols : List ℕ) (a b : SplitWord)

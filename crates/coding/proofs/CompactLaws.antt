@@ -9,7 +9,7 @@ use native.Mathlib.Numerals.{add-one}
 use native.Mathlib.Omega.{arith}
 use lib.ListN.{length, getD, drop}
 use lib.Seq.{drop-cons}
-use Rattle.coding.specs.Reduced.{rowsOf, pivotsFrom, freesFrom}
+use Rattle.coding.specs.Reduce.{rowsOf, pivotsFrom, freesFrom}
 
 -- each entry is a row or stands for a place that is no pivot
 pub rows-count : (p : ℕ) (B : List ℕ) → length (rowsOf B) + length (freesFrom p B) ≡ length B

@@ -1,49 +1,16 @@
 -- Laws of counts: how many numbers below m pass a test, a one-to-one map carries counts over, and the counts of all values
 -- add up to the number of arguments. Assumes nothing.
 use mathlib.Core.Path.{_≡_, refl, sym, ap, ap₂, _∙_}
-use mathlib.Core.List.{List, [], _∷_, _++_}
 use mathlib.Core.Bool.{Bool, true, false, not, cond, _&&_}
-use Prim.Native.Nat.{ℕ, zero, suc, _+_, _≤_, _<_, suc-le-suc}
-use native.Mathlib.Nat.{le-of-suc-le-suc, add-zero, add-suc, le-refl, zero-lt-suc}
+use Prim.Native.Nat.{ℕ, zero, suc, _+_, _≤_, _<_}
+use native.Mathlib.Nat.{le-of-suc-le-suc, add-zero, add-suc, le-refl}
 use native.Mathlib.Numerals.{add-one}
 use native.Mathlib.Omega.{arith}
 use lib.Dec.{eqb, eqb·zero-suc, eqb·suc-zero, eqb·suc-suc}
-use lib.ListN.{length, getD, take}
 use borrow.Author.Tests.{eqb-true, eqb-false, ne-eqb}
 use Rattle.coding.specs.Lists.{tabulate, total}
 use Rattle.coding.specs.Weight.{count}
 use Rattle.coding.proofs.SearchLaws.{true-false}
-
--- a tabulated list has one entry for each argument
-pub length-tabulate : (f : ℕ → ℕ) (m : ℕ) → length (tabulate f m) ≡ m
-length-tabulate f zero = refl
-length-tabulate f (suc m) = ap suc (length-tabulate (λ i. f (suc i)) m)
-
--- entry i of a tabulated list is the value at i
-pub getD-tabulate : (f : ℕ → ℕ) (m i : ℕ) → i < m → getD (tabulate f m) i 0 ≡ f i
-getD-tabulate f zero i h = absurd (omega arith)
-getD-tabulate f (suc m) zero h = refl
-getD-tabulate f (suc m) (suc i) h = getD-tabulate (λ j. f (suc j)) m i (le-of-suc-le-suc h)
-
--- the first entries
-pub take-tabulate : (f : ℕ → ℕ) (m r : ℕ) → r ≤ m → take r (tabulate f m) ≡ tabulate f r
-take-tabulate f m zero h = refl
-take-tabulate f zero (suc r) h = absurd (omega arith)
-take-tabulate f (suc m) (suc r) h = ap (λ (l : List ℕ). f zero ∷ l) (take-tabulate (λ i. f (suc i)) m r (le-of-suc-le-suc h))
-
-tabulate-suc : (f : ℕ → ℕ) (m : ℕ) → tabulate f m ++ f m ∷ [] ≡ tabulate f (suc m)
-tabulate-suc f zero = refl
-tabulate-suc f (suc m) = ap (λ (l : List ℕ). f zero ∷ l) (tabulate-suc (λ i. f (suc i)) m)
-
--- one more entry
-pub tabulate-more : (f : ℕ → ℕ) (m : ℕ) → tabulate f m ++ f m ∷ [] ≡ tabulate f (m + 1)
-tabulate-more f m = rw add-one (tabulate-suc f m)
-
--- functions that agree below m are tabulated alike
-pub tabulate-same : (f g : ℕ → ℕ) (m : ℕ) → ((i : ℕ) → i < m → f i ≡ g i) → tabulate f m ≡ tabulate g m
-tabulate-same f g zero h = refl
-tabulate-same f g (suc m) h =
-    ap₂ _∷_ (h zero (zero-lt-suc m)) (tabulate-same (λ i. f (suc i)) (λ i. g (suc i)) m (λ i l. h (suc i) (suc-le-suc l)))
 
 -- one more number adds one where it passes
 pub count-step : (p : ℕ → Bool) (i : ℕ) → count p (i + 1) ≡ count p i + cond (p i) 1 0

@@ -13,7 +13,7 @@ use lib.Pow.{pow-lt}
 use lib.Bits.{xor-lt, xor-self, xor-shifted}
 use Rattle.coding.specs.Word.{_⊕_}
 use Rattle.coding.specs.Matrix.{encode, Inside, Independent, Depends, isCodeword, firstDependent}
-use Rattle.coding.specs.Reduced.{rest, reduce}
+use Rattle.coding.specs.Reduce.{rest, reduce}
 use Rattle.coding.proofs.WordLaws.{xor-eq}
 use Rattle.coding.proofs.MatrixLaws.{encode-xor, encode-take, row-message}
 use Rattle.coding.proofs.ReduceLaws.{codeword-kept, kept-codeword}

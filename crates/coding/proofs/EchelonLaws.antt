@@ -9,7 +9,8 @@ use native.Mathlib.Omega.{arith}
 use lib.ListN.{length, getD, List·getD-eq-default}
 use Rattle.coding.specs.Word.{bit}
 use Rattle.coding.specs.Matrix.{encode, Codeword, Inside}
-use Rattle.coding.specs.Reduced.{Leads, Echelon, ReducedForm, ByPivot, rowsOf, pivotsFrom, reduce, reducedRows, pivots}
+use Rattle.coding.specs.Reduced.{Leads, Echelon, ReducedForm, ByPivot}
+use Rattle.coding.specs.Reduce.{rowsOf, pivotsFrom, reduce, reducedRows, pivots}
 use Rattle.coding.proofs.MatrixLaws.{encode-xor, encode-zero, encode-kept, encode-in, codeword-zero, codeword-xor, row-codeword}
 use Rattle.coding.proofs.PivotLaws.{ByPlace, row-kept}
 use Rattle.coding.proofs.ReduceLaws.{whole, codeword-kept, kept-codeword}

@@ -14,7 +14,7 @@ use lib.Count.{trailingZeros}
 use Rattle.coding.specs.Lists.{zeros}
 use Rattle.coding.specs.Word.{bit}
 use Rattle.coding.specs.Matrix.{Inside, Independent, Depends}
-use Rattle.coding.specs.Reduced.{rest, put, addTo, reduceFrom, reduce, freesFrom}
+use Rattle.coding.specs.Reduce.{rest, put, addTo, reduceFrom, reduce, freesFrom}
 use Rattle.coding.proofs.PivotLaws.{ByPlace, rest-pivot}
 use Rattle.coding.proofs.ReduceLaws.{IsLead, is-lead, put-length, put-same, q-free, put-zero, rest-lt, whole}
 use Rattle.coding.proofs.DependLaws.{inside-take, rest-depends, depends-rest, independent-none}

@@ -1,82 +1,81 @@
--- Laws of the search for the lightest: it finds one where there is any, and there is one at most; and a word plus its leader is a
+-- Laws of decoding: every syndrome of a matrix has a leader, of weight at most n - k, and a word plus the leader of its syndrome is a
 -- nearest codeword. Assumes nothing.
-use mathlib.Core.Path.{_≡_, refl, sym, ap, _∙_}
-use mathlib.Core.Logic.{⊎-elim}
+use mathlib.Core.Path.{_≡_, sym, ap, _∙_}
+use mathlib.Core.Logic.{_↔_}
+use mathlib.Core.List.{List}
 use mathlib.Core.Option.{Option, none, some}
-use mathlib.Core.Bool.{Bool, true, false, cond}
-use Prim.Native.Nat.{ℕ, zero, suc, _^_, _≤_, _<_}
-use native.Mathlib.Nat.{le-refl, eq-or-lt-of-le, le-of-suc-le-suc, le-antisymm}
-use native.Mathlib.Omega.{arith}
-use lib.Dec.{T, ltb, ltb→lt, nltb→le, eqb→eq, eqb-refl}
-use lib.Bits.{xor-lt, xor-self, xor-zero-r}
+use Prim.Native.Nat.{ℕ, _^_, _≤_, _<_}
+use native.Mathlib.Nat.{le-trans}
+use lib.Dec.{T, eqb→eq, eqb-refl}
+use lib.ListN.{length, length-map}
+use lib.Bits.{xor-self, xor-lt}
+use lib.Count.{ones-le}
 use Rattle.coding.specs.Word.{_⊕_, weight, distance}
-use Rattle.coding.specs.Leader.{merge, lightestBelow, having}
-use Rattle.coding.proofs.WordLaws.{xor-cancel}
+use Rattle.coding.specs.Matrix.{Codeword, Inside}
+use Rattle.coding.specs.Reduce.{reduce}
+use Rattle.coding.specs.Check.{check, checks, frees}
+use Rattle.coding.specs.Leader.{syndromeOf, IsLeader, lightestBelow, orNoLeader, having, leaderOf}
+use Rattle.coding.proofs.WordLaws.{xor-eq}
+use Rattle.coding.proofs.MatrixLaws.{encode-lt}
+use Rattle.coding.proofs.CheckLaws.{syndrome-xor, syndrome-lt}
+use Rattle.coding.proofs.ReduceLaws.{whole}
+use Rattle.coding.proofs.CheckRowLaws.{syndrome-codeword}
+use Rattle.coding.proofs.LightestLaws.{IsLightest, Found, found, nearest}
+use Rattle.coding.proofs.SpreadLaws.{spread, spread-lt, spread-light, syndrome-spread}
 
--- what holds of each number below m, and of m
-last : (Q : ℕ → Type 0) {m : ℕ} → ((v : ℕ) → v < m → Q v) → Q m → (v : ℕ) → v < suc m → Q v
-last Q f q v h = ⊎-elim (λ e. rw e q) (λ l. f v l) (eq-or-lt-of-le (le-of-suc-le-suc h))
+-- 01, part 5, nearest reading: the received word plus the leader of its syndrome
+abbrev pub nearestOf : ℕ → List ℕ → ℕ → ℕ
+nearestOf n rows w = w ⊕ leaderOf n rows (syndromeOf n rows w)
 
-pub record IsLightest (p : ℕ → Bool) (m b : ℕ) : Type 0 where
-  pub passes : T (p b)
-  pub below : b < m
-  pub light : (v : ℕ) → v < m → T (p v) → weight b ≤ weight v
-  pub first : (v : ℕ) → v < m → T (p v) → weight v ≡ weight b → b ≤ v
+module _ (n : ℕ) (rs : List ℕ) (fits : Inside n rs) where
+  pub codeword-lt : (w : ℕ) → Codeword rs w → w < 2 ^ n
+  codeword-lt w (u, h, e) = rw e (encode-lt n rs fits u)
 
-abbrev pub Found : (ℕ → Bool) → ℕ → Option ℕ → Type 0
-Found p m none = (v : ℕ) → v < m → T (p v) → ⊥
-Found p m (some b) = IsLightest p m b
+  -- every syndrome has a leader, no heavier than the syndrome
+  pub leader-lightest : (s : ℕ) → s < 2 ^ length (frees n rs) → IsLightest (having (syndromeOf n rs) s) (2 ^ n) (leaderOf n rs s)
+  leader-lightest s h = go (lightestBelow (having (syndromeOf n rs) s) (2 ^ n)) (found (having (syndromeOf n rs) s) (2 ^ n))
+    where
+      in-n : spread (reduce n rs) s < 2 ^ n
+      in-n = rw (whole n rs fits .reduced .size) at (spread-lt (reduce n rs) s)
 
-pub found : (p : ℕ → Bool) (m : ℕ) → Found p m (lightestBelow p m)
-found p zero = λ v h. absurd (omega arith)
-found p (suc m) = go (p m) refl (lightestBelow p m) (found p m)
-  where
-    go : (t : Bool) → p m ≡ t → (o : Option ℕ) → Found p m o → Found p (suc m) (merge t m o)
-    go false e none f = last (λ v. T (p v) → ⊥) f (λ t. rw e at t)
-    go false e (some b) f = record {
-      passes = f .passes;
-      below = omega arith;
-      light = last (λ v. T (p v) → weight b ≤ weight v) (f .light) (λ t. absurd (rw e at t));
-      first = last (λ v. T (p v) → weight v ≡ weight b → b ≤ v) (f .first) (λ t. absurd (rw e at t));
-    }
-    go true e none f = record {
-      passes = rw e tt;
-      below = le-refl (suc m);
-      light = last (λ v. T (p v) → weight m ≤ weight v) (λ v h t. absurd (f v h t)) (λ t. le-refl (weight m));
-      first = last (λ v. T (p v) → weight v ≡ weight m → m ≤ v) (λ v h t. absurd (f v h t)) (λ t q. le-refl m);
-    }
-    go true e (some b) f = choose (ltb (weight m) (weight b)) refl
-      where
-        choose : (c : Bool) → ltb (weight m) (weight b) ≡ c → IsLightest p (suc m) (cond c m b)
-        choose true q = record {
-          passes = rw e tt;
-          below = le-refl (suc m);
-          light = last (λ v. T (p v) → weight m ≤ weight v) (λ v h t. omega (arith, f .light v h t, ltb→lt (weight m) (weight b) (rw q tt))) (λ t. le-refl (weight m));
-          first = last (λ v. T (p v) → weight v ≡ weight m → m ≤ v)
-              (λ v h t k. absurd (omega (arith, f .light v h t, ltb→lt (weight m) (weight b) (rw q tt)))) (λ t k. le-refl m);
-        }
-        choose false q = record {
-          passes = f .passes;
-          below = omega arith;
-          light = last (λ v. T (p v) → weight b ≤ weight v) (f .light) (λ t. nltb→le (weight m) (weight b) (rw q tt));
-          first = last (λ v. T (p v) → weight v ≡ weight b → b ≤ v) (f .first) (λ t k. omega arith);
-        }
+      passes : T (having (syndromeOf n rs) s (spread (reduce n rs) s))
+      passes = rw (syndrome-spread (reduce n rs) s h) (eqb-refl s)
 
--- there is one at most
-pub lightest-one : (p : ℕ → Bool) (m a b : ℕ) → IsLightest p m a → IsLightest p m b → a ≡ b
-lightest-one p m a b f g =
-    let e : weight a ≡ weight b = le-antisymm (f .light b (g .below) (g .passes)) (g .light a (f .below) (f .passes)) in
-    le-antisymm (f .first b (g .below) (g .passes) (sym e)) (g .first a (f .below) (f .passes) e)
+      go : (o : Option ℕ) → Found (having (syndromeOf n rs) s) (2 ^ n) o → IsLightest (having (syndromeOf n rs) s) (2 ^ n) (orNoLeader o)
+      go none f = absurd (f (spread (reduce n rs) s) in-n passes)
+      go (some l) f = f
 
--- ---- the nearest codeword
+  pub leader-light : (s : ℕ) → s < 2 ^ length (frees n rs) → weight (leaderOf n rs s) ≤ length (frees n rs)
+  leader-light s h =
+      le-trans (leader-lightest s h .light (spread (reduce n rs) s)
+      (rw (whole n rs fits .reduced .size) at (spread-lt (reduce n rs) s)) (rw (syndrome-spread (reduce n rs) s h) (eqb-refl s)))
+      (le-trans (spread-light (reduce n rs) s) (ones-le (length (frees n rs)) s h))
 
-module _ (n : ℕ) (syn : ℕ → ℕ) (lin : (a b : ℕ) → syn (a ⊕ b) ≡ syn a ⊕ syn b) (C : ℕ → Type 0)
-    (zero-is : (w : ℕ) → w < 2 ^ n → syn w ≡ 0 → C w) (is-zero : (w : ℕ) → C w → (w < 2 ^ n) × (syn w ≡ 0)) where
-  pub nearest : (w l : ℕ) → w < 2 ^ n → IsLightest (having syn (syn w)) (2 ^ n) l
-      → C (w ⊕ l) × (distance w (w ⊕ l) ≡ weight l) × ((c : ℕ) → C c → distance w (w ⊕ l) ≤ distance w c)
-  nearest w l hw f = (
-    zero-is (w ⊕ l) (xor-lt n w l hw (f .below)) (lin w l ∙ ap (λ (x : ℕ). syn w ⊕ x) (eqb→eq (syn l) (syn w) (f .passes)) ∙ xor-self (syn w)),
-    ap weight (xor-cancel w l),
-    λ c cc. rw (xor-cancel w l) (f .light (w ⊕ c) (xor-lt n w c hw (is-zero c cc .0))
-        (rw (lin w c, is-zero c cc .1, xor-zero-r (syn w)) (eqb-refl (syn w)))),
-  )
+  pub syndromeOf-lt : (w : ℕ) → syndromeOf n rs w < 2 ^ length (frees n rs)
+  syndromeOf-lt w = rw (length-map (frees n rs) (check (reduce n rs))) at (syndrome-lt (checks n rs) w)
+
+  pub near-is : (w : ℕ) → w < 2 ^ n → Codeword rs (nearestOf n rs w) × (distance w (nearestOf n rs w) ≡ weight (leaderOf n rs (syndromeOf n rs w))) × ((c : ℕ) → Codeword rs c → distance w (nearestOf n rs w) ≤ distance w c)
+  near-is w h =
+      nearest n (syndromeOf n rs) (syndrome-xor (checks n rs)) (Codeword rs)
+      (λ v l e. syndrome-codeword n rs fits v l .0 e) (λ v c. (codeword-lt v c, syndrome-codeword n rs fits v (codeword-lt v c) .1 c))
+      w (leaderOf n rs (syndromeOf n rs w)) h (leader-lightest (syndromeOf n rs w) (syndromeOf-lt w))
+
+  -- two words have the same syndrome exactly when they stand in the same row of the standard array
+  pub same-coset : (a b : ℕ) → a < 2 ^ n → b < 2 ^ n → (syndromeOf n rs b ≡ syndromeOf n rs a) ↔ Codeword rs (a ⊕ b)
+  same-coset a b ha hb =
+      let C = syndrome-codeword n rs fits (a ⊕ b) (xor-lt n a b ha hb) in (
+        λ e. C .0 (syndrome-xor (checks n rs) a b ∙ ap (λ (x : ℕ). syndromeOf n rs a ⊕ x) e ∙ xor-self (syndromeOf n rs a)),
+        λ c. sym (xor-eq (syndromeOf n rs a) (syndromeOf n rs b) (sym (syndrome-xor (checks n rs) a b) ∙ C .1 c)),
+      )
+
+  -- the leader that the definition finds is the leader
+  pub leader-is : (s : ℕ) → s < 2 ^ length (frees n rs) → IsLeader n rs s (leaderOf n rs s)
+  leader-is s h =
+      let f = leader-lightest s h in
+      record {
+        below = f .below;
+        has = eqb→eq (syndromeOf n rs (leaderOf n rs s)) s (f .passes);
+        coset = λ v l. rw (eqb→eq (syndromeOf n rs (leaderOf n rs s)) s (f .passes)) at (same-coset (leaderOf n rs s) v (f .below) l);
+        lightest = λ v l e. f .light v l (rw e (eqb-refl s));
+        smallest = λ v l e q. f .first v l (rw e (eqb-refl s)) q;
+      }

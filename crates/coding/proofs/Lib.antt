@@ -1,4 +1,5 @@
 pub mod ListLaws
+pub mod LoopLaws
 pub mod WordLaws
 pub mod WeightLaws
 pub mod MatrixLaws
@@ -18,11 +19,11 @@ pub mod CheckRowLaws
 pub mod CountLaws
 pub mod WeightCountLaws
 pub mod DistanceLaws
-pub mod LeaderLaws
+pub mod LightestLaws
 pub mod SpreadLaws
 pub mod OrderLaws
 pub mod RadiusLaws
-pub mod DecodeLaws
+pub mod LeaderLaws
 pub mod BuildLaws
 pub mod LinearLaws
 pub mod SystematicLaws

@@ -10,7 +10,7 @@ use Rattle.coding.specs.Matrix.{sel, encode}
 use Rattle.coding.specs.Check.{syndrome}
 use Rattle.coding.proofs.WordLaws.{halves-eq, half-lt, xor-half, xor-digit, xor-fix}
 use Rattle.coding.proofs.CheckLaws.{syndrome-xor}
-use Rattle.coding.proofs.CountLaws.{tabulate-same}
+use Rattle.coding.proofs.ListLaws.{tabulate-same}
 
 double-half : (a : ℕ) → 2 * a / 2 ≡ a
 double-half a = omega arith

@@ -15,7 +15,7 @@ use lib.Count.{ones-cat}
 use Rattle.coding.specs.Word.{weight}
 use Rattle.coding.specs.Order.{words, order}
 use Rattle.coding.proofs.WeightLaws.{weight-zero, weight-none, weight-pow}
-use Rattle.coding.proofs.LeaderLaws.{IsLightest}
+use Rattle.coding.proofs.LightestLaws.{IsLightest}
 
 -- the first that passes
 abbrev pub pickFirst : Bool → ℕ → Option ℕ → Option ℕ

@@ -12,7 +12,7 @@ use lib.Pow.{pow-pos}
 use lib.Bits.{xor-lt, xor-self, xor-zero-r}
 use Rattle.coding.specs.Word.{_⊕_, bit, parity}
 use Rattle.coding.specs.Matrix.{sel, encode, Inside}
-use Rattle.coding.specs.Reduced.{rest}
+use Rattle.coding.specs.Reduce.{rest}
 use Rattle.coding.specs.Check.{check, checksOf, syndrome}
 use Rattle.coding.proofs.WordLaws.{bit-lt, bit-of-zero, bit-xor, ext, xor-eq, xor-four}
 use Rattle.coding.proofs.WeightLaws.{parity-zero}

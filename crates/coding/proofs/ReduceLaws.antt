@@ -15,12 +15,12 @@ use lib.Count.{trailingZeros, under}
 use Rattle.coding.specs.Lists.{zeros}
 use Rattle.coding.specs.Word.{_⊕_, bit}
 use Rattle.coding.specs.Matrix.{sel, encode, Codeword, Inside}
-use Rattle.coding.specs.Reduced.{Leads, rest, wipe, put, addTo, reduceFrom, reduce}
-use Rattle.coding.specs.Check.{checks, syndrome}
+use Rattle.coding.specs.Reduced.{Leads}
+use Rattle.coding.specs.Reduce.{rest, wipe, put, addTo, reduceFrom, reduce}
 use Rattle.coding.proofs.WordLaws.{xor-eq, half-lt, xor-cancel-r, bit-lt, bit-half, bit-zeroth, bit-of-zero, bit-xor}
 use Rattle.coding.proofs.MatrixLaws.{sel-lt, encode-xor, encode-zero, encode-kept, encode-lt, codeword-zero, codeword-xor, sel-in, encode-in, row-codeword}
 use Rattle.coding.proofs.CheckLaws.{bit-sel}
-use Rattle.coding.proofs.PivotLaws.{ByPlace, rest-pivot, row-kept, encode-twice, syndrome-kept, kept-syndrome}
+use Rattle.coding.proofs.PivotLaws.{ByPlace, rest-pivot, row-kept, encode-twice}
 
 -- ---- the leftmost one of a word
 
@@ -262,10 +262,3 @@ module _ (n : ℕ) (rs : List ℕ) (fits : Inside n rs) where
       (encode-in (Codeword rs) (codeword-zero rs) (codeword-xor rs) (reduce n rs)
       (reduce-in (Codeword rs) (codeword-zero rs) (codeword-xor rs) n rs (zeros n)
       (λ p h. rw (zeros-at n p h) (codeword-zero rs)) (row-codeword rs)) w)
-
-  -- 01, part 2: a word of n places is a codeword exactly when its syndrome is 0
-  pub syndrome-codeword : (w : ℕ) → w < 2 ^ n → (syndrome (checks n rs) w ≡ 0) ↔ Codeword rs w
-  syndrome-codeword w h = (
-    λ e. kept-codeword w (syndrome-kept n (reduce n rs) (whole .reduced) w h e),
-    λ c. kept-syndrome (reduce n rs) w (codeword-kept w c),
-  )

@@ -10,7 +10,7 @@ use lib.Bits.{xor-zero-r}
 use lib.Count.{ones-step}
 use Rattle.coding.specs.Word.{_⊕_, bit, weight, parity}
 use Rattle.coding.specs.Matrix.{sel, encode}
-use Rattle.coding.specs.Reduced.{rest, freesFrom}
+use Rattle.coding.specs.Reduce.{rest, freesFrom}
 use Rattle.coding.specs.Check.{check, checksOf, syndrome}
 use Rattle.coding.proofs.WordLaws.{half-lt, bit-half, bit-zeroth}
 use Rattle.coding.proofs.WeightLaws.{weight-zero}

@@ -11,7 +11,8 @@ use lib.Pow.{pow-pos, pow-mono, pow-lt, pow-add, shr-lt, split, high, low}
 use lib.Bits.{xor-comm, xor-self, xor-shifted, xor-shr, xor-mod}
 use Rattle.coding.specs.Word.{_⊕_}
 use Rattle.coding.specs.Matrix.{sel, encode, Codeword, IsMessage, Inside, Independent}
-use Rattle.coding.specs.Systematic.{systematic, systematicSyndrome}
+use Rattle.coding.specs.Systematic.{systematic}
+use Rattle.coding.specs.Inner.SystematicSyndrome.{systematicSyndrome}
 use Rattle.coding.proofs.WordLaws.{xor-eq, xor-four, half-lt}
 use Rattle.coding.proofs.MatrixLaws.{encode-xor, encode-lt, row-message}
 

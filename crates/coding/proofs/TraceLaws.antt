@@ -13,7 +13,9 @@ use lib.Bits.{xor-lt}
 use Rattle.coding.specs.Lists.{zeros}
 use Rattle.coding.specs.Word.{_⊕_, bit}
 use Rattle.coding.specs.Matrix.{sel, encode, Codeword, Inside, Independent, IsMessage, messageOf}
-use Rattle.coding.specs.Reduced.{wipe, wipes, put, reduce, Traced}
+use Rattle.coding.specs.Reduce.{wipe, put, reduce}
+use Rattle.coding.specs.Inner.Beside.{wipes}
+use Rattle.coding.specs.Reduced.{Traced}
 use Rattle.coding.proofs.MatrixLaws.{sel-lt, encode-xor, encode-zero, encode-lt}
 use Rattle.coding.proofs.ReduceLaws.{put-length, put-same, put-other, zeros-at, codeword-kept}
 use Rattle.coding.proofs.SearchLaws.{message-hit, message-le}

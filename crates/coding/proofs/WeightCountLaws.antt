@@ -13,7 +13,8 @@ use Rattle.coding.specs.Weight.{count, weightCount, weightCounts}
 use Rattle.coding.proofs.MatrixLaws.{encode-lt}
 use Rattle.coding.proofs.SearchLaws.{codeword-test}
 use Rattle.coding.proofs.DependLaws.{one-message}
-use Rattle.coding.proofs.CountLaws.{tabulate-same, count-image, count-total}
+use Rattle.coding.proofs.ListLaws.{tabulate-same}
+use Rattle.coding.proofs.CountLaws.{count-image, count-total}
 
 -- the codewords of weight j are as many as the messages with a codeword of weight j
 pub weightCount-messages : (n : ℕ) (rows : List ℕ) → Inside n rows → Independent rows → (j : ℕ)

@@ -8,7 +8,7 @@ use lib.Arith.{bin-ind}
 use lib.Bits.{bitAnd, and-comm, and-zero-r, xor-comm, xor-self}
 use lib.Count.{ones, onesIn, ones-step}
 use Rattle.coding.specs.Word.{_⊕_, bit, weight, distance, parity}
-use Rattle.coding.proofs.WordLaws.{halves-eq, xor-half, xor-odd, and-half, and-odd, xor-eq, xor-assoc, xor-cancel-r, bit-half, pow-half, pow-even, half-lt}
+use Rattle.coding.proofs.WordLaws.{halves-eq, xor-half, xor-odd, and-half, and-odd, xor-assoc, xor-cancel-r, bit-half, pow-half, pow-even, half-lt}
 
 pub weight-zero : weight 0 ≡ 0
 unfolding ones
@@ -49,9 +49,6 @@ distance-sym a b = ap weight (xor-comm a b)
 
 pub distance-self : (a : ℕ) → distance a a ≡ 0
 distance-self a = ap weight (xor-self a) ∙ weight-zero
-
-pub distance-zero : (a b : ℕ) → distance a b ≡ 0 → a ≡ b
-distance-zero a b e = xor-eq a b (weight-none (a ⊕ b) e)
 
 pub distance-tri : (a b c : ℕ) → distance a c ≤ distance a b + distance b c
 distance-tri a b c = rw (ap weight (sym (xor-assoc (a ⊕ b) b c) ∙ ap (λ (x : ℕ). x ⊕ c) (xor-cancel-r b a))) at (weight-xor-le (a ⊕ b) (b ⊕ c))

@@ -13,7 +13,8 @@ use lib.Count.{trailingZeros}
 use Rattle.coding.specs.Lists.{zeros}
 use Rattle.coding.specs.Word.{_⊕_, bit}
 use Rattle.coding.specs.Matrix.{sel, encode, Inside}
-use Rattle.coding.specs.Reduced.{Leads, rest, wipe, put, addTo, reduceFrom, reduce, rowsOf}
+use Rattle.coding.specs.Reduced.{Leads}
+use Rattle.coding.specs.Reduce.{rest, wipe, put, addTo, reduceFrom, reduce, rowsOf}
 use Rattle.coding.specs.Check.{column, syndrome}
 use Rattle.coding.proofs.WordLaws.{bit-of-zero}
 use Rattle.coding.proofs.WeightLaws.{parity-zero}

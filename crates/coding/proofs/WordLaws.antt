@@ -53,8 +53,6 @@ xor-left-comm a b c = sym (xor-assoc a b c) ∙ ap (λ (x : ℕ). x ⊕ c) (xor-
 pub xor-four : (a b c d : ℕ) → (a ⊕ b) ⊕ (c ⊕ d) ≡ (a ⊕ c) ⊕ (b ⊕ d)
 xor-four a b c d = xor-assoc a b (c ⊕ d) ∙ ap (λ (x : ℕ). a ⊕ x) (xor-left-comm b c d) ∙ sym (xor-assoc a c (b ⊕ d))
 
-pub ruleset xors = (xor-assoc, xor-comm, xor-left-comm, xor-self, xor-cancel, xor-zero-r)
-
 pub bit-lt : (w i : ℕ) → bit w i < 2
 bit-lt w i = omega arith
 
@@ -72,9 +70,6 @@ and-half a b = and-shr a b 1
 
 pub and-odd : (a b : ℕ) → bitAnd a b % 2 ≡ min (a % 2) (b % 2)
 and-odd a b = omega (arith, and-step a b)
-
-pub bit-and : (a b i : ℕ) → bit (bitAnd a b) i ≡ min (bit a i) (bit b i)
-bit-and a b i = ap (λ (x : ℕ). x % 2) (and-shr a b i) ∙ and-odd (a / 2 ^ i) (b / 2 ^ i)
 
 pub bit-half : (w i : ℕ) → bit w (suc i) ≡ bit (w / 2) i
 bit-half w i = ap (λ (x : ℕ). w / 2 ^ x % 2) (sym (one-add i)) ∙ ap (λ (x : ℕ). x % 2) (sym (shr-shr w 1 i))

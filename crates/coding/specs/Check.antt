@@ -5,7 +5,7 @@ use mathlib.Core.List.{List, [], _∷_, map}
 use Prim.Native.Nat.{ℕ, _+_, _*_, _^_, _<_}
 use lib.ListN.{length, getD}
 use Rattle.coding.specs.Word.{_⊕_, bit, parity}
-use Rattle.coding.specs.Reduced.{reduce, freesFrom}
+use Rattle.coding.specs.Reduce.{reduce, freesFrom}
 
 -- the word whose place i is the digit of entry i
 abbrev pub places : (ℕ → ℕ) → List ℕ → ℕ

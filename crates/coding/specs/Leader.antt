@@ -49,7 +49,3 @@ having syn s v = eqb (syn v) s
 -- the leader of the syndrome s; `leader-is` says that it is the one
 abbrev pub leaderOf : ℕ → List ℕ → ℕ → ℕ
 leaderOf n rows s = orNoLeader (lightestBelow (having (syndromeOf n rows) s) (2 ^ n))
-
--- 01, part 5, nearest reading: the received word plus the leader of its syndrome
-abbrev pub nearestOf : ℕ → List ℕ → ℕ → ℕ
-nearestOf n rows w = w ⊕ leaderOf n rows (syndromeOf n rows w)

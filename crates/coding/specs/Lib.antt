@@ -2,6 +2,7 @@ pub mod Lists
 pub mod Word
 pub mod Matrix
 pub mod Reduced
+pub mod Reduce
 pub mod Check
 pub mod Weight
 pub mod Leader
@@ -9,3 +10,4 @@ pub mod Order
 pub mod Radius
 pub mod Systematic
 pub mod Columns
+pub mod Inner

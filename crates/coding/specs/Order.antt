@@ -4,8 +4,7 @@ use mathlib.Core.List.{List, [], _∷_, _++_, map}
 use mathlib.Core.Bool.{cond}
 use Prim.Native.Nat.{ℕ, zero, suc, _+_, _^_}
 use lib.Dec.{eqb}
-use lib.ListN.{length, getD, set, replicate}
-use Rattle.coding.specs.Weight.{count}
+use lib.ListN.{getD, set, replicate}
 use Rattle.coding.specs.Leader.{noLeader}
 
 -- the words of m places and weight t, by rising number: those without the highest place, then those with it
@@ -26,9 +25,6 @@ abbrev pub fills : (ℕ → ℕ) → List ℕ → List ℕ → List ℕ
 fills syn L [] = L
 fills syn L (w ∷ ws) = fills syn (fill syn L w) ws
 
--- a list of blank entries, and how many entries are blank
+-- a list of blank entries
 abbrev pub blanks : ℕ → List ℕ
 blanks m = replicate m noLeader
-
-abbrev pub blankCount : List ℕ → ℕ
-blankCount L = count (λ s. eqb (getD L s 0) noLeader) (length L)

@@ -18,8 +18,8 @@ use Rattle.words.specs.declared.answer.Refusal.{Refusal}
 use Rattle.words.specs.declared.answer.Refusal.the-variants.{OutOfRange, RowCount, RowOutside, Dependent, RadiusTooLarge, TooManyWords, WordOutside, ShortOutput, ShortWork}
 use Rattle.words.specs.declared.answer.Answer.{Answer}
 use Rattle.words.specs.declared.answer.Answer.the-variants.{Done, Refused}
-use Rattle.words.proofs.ShapeLaws.{unless-done, andThen-done}
-use Rattle.words.proofs.ListLaws.{Listed, list-in}
+use Rattle.words.proofs.AnswerLaws.{unless-done, andThen-done}
+use Rattle.words.proofs.WordListLaws.{Listed, list-in}
 use Rattle.weights.specs.Description.{WeightsOf}
 use Rattle.weights.specs.declared.weights.Weights.{Weights}
 use Rattle.decoder.specs.Causes.{radiusAnswer, listsAnswer, decodeAnswer}

@@ -1,4 +1,4 @@
-mod PromiseLaws
-mod StepLaws
+mod DecodePromiseLaws
+mod DecodeStepLaws
 pub mod CauseLaws
 mod SlotLaws

@@ -1,39 +1,20 @@
 -- Laws of Decode's slots: with the list of leaders they are those of the definition. Assumes nothing.
-use mathlib.Core.Path.{_≡_, refl, sym, ap, ap₂, _∙_}
-use mathlib.Core.Logic.{_↔_}
+use mathlib.Core.Path.{_≡_, ap, ap₂, _∙_}
 use mathlib.Core.List.{List, _++_, map}
-use mathlib.Core.Bool.{Bool, true, false}
-use Prim.Native.Nat.{ℕ, _+_, _-_, _*_, _^_, _≤_, _<_}
-use native.Mathlib.Nat.{le-trans}
-use native.Mathlib.Decide.{ℕ-discrete, decLe}
-use native.Mathlib.Omega.{arith}
+use Prim.Native.Nat.{ℕ, _+_, _-_, _^_, _<_}
 use lib.ListN.{length, getD, length-map, List·getD-append}
-use lib.Bits.{xor-zero-r}
-use borrow.Author.Tests.{eq-eqb, ne-eqb, le-leb, lt-leb}
 use Rattle.coding.specs.Lists.{padded}
-use Rattle.coding.specs.Word.{_⊕_, weight, distance}
-use Rattle.coding.specs.Matrix.{Codeword}
 use Rattle.coding.specs.Check.{checks, syndrome}
-use Rattle.coding.specs.Weight.{dmin}
-use Rattle.coding.specs.Leader.{syndromeOf, leaderOf, nearestOf}
-use Rattle.coding.specs.Radius.{NearestRule, RadiusRules}
-use Rattle.coding.proofs.WordLaws.{xor-cancel}
-use Rattle.coding.proofs.WeightLaws.{weight-none, distance-sym, distance-tri}
-use Rattle.coding.proofs.ListLaws.{getD-map, map-same}
-use Rattle.coding.proofs.CountLaws.{getD-tabulate}
-use Rattle.coding.proofs.DistanceLaws.{codeword-apart}
-use Rattle.coding.proofs.DecodeLaws.{near-is}
-use Rattle.coding.proofs.RadiusLaws.{one-within, radius-rules}
+use Rattle.coding.specs.Leader.{syndromeOf, leaderOf}
+use Rattle.coding.proofs.ListLaws.{getD-map, map-same, getD-tabulate}
 use Rattle.words.specs.Limits.{maxChecks}
 use Rattle.words.specs.Accepted.{Accepted}
 use Rattle.leaders.specs.Leaders.{leadersList}
-use Rattle.words.proofs.CodeLaws.{checks-pad, syndrome-below, light}
-use Rattle.outcomes.specs.Outcome.{takes, outcomeOf, wordIn, countIn, decodedAs, wordOf, countOf}
+use Rattle.words.proofs.CodeLaws.{checks-pad, syndrome-below}
+use Rattle.outcomes.specs.Outcome.{outcomeOf, wordIn, countIn, decodedAs, wordOf, countOf}
 use Rattle.outcomes.specs.declared.outcome.Reading.{Reading}
-use Rattle.outcomes.specs.declared.outcome.Reading.the-variants.{Nearest, Within}
 use Rattle.outcomes.specs.declared.outcome.Outcome.{Outcome}
-use Rattle.outcomes.specs.declared.outcome.Outcome.the-variants.{Clean, Mended, Far}
-use Rattle.decoder.specs.Decoded.{wordBy, countBy}
+use Rattle.decoder.specs.Inner.SlotsBy.{wordBy, countBy}
 
 -- a slot that has been written
 pub slot-at : (f : ℕ → ℕ) (ws rest : List ℕ) (i : ℕ) → i < length ws → getD (map f ws ++ rest) i 0 ≡ f (getD ws i 0)

@@ -6,7 +6,6 @@ use Prim.Native.Nat.{ℕ, _-_, _^_, _≤_, _<_}
 use lib.ListN.{length, getD}
 use Rattle.coding.specs.Word.{distance}
 use Rattle.coding.specs.Matrix.{Codeword}
-use Rattle.coding.specs.Check.{syndrome}
 use Rattle.coding.specs.Weight.{dmin, MinimumDistance}
 use Rattle.coding.specs.Leader.{IsLeader}
 use Rattle.coding.specs.Radius.{NearestRule, RadiusRules}
@@ -15,18 +14,11 @@ use Rattle.words.specs.declared.answer.Refusal.{Refusal}
 use Rattle.words.specs.declared.answer.Answer.{Answer}
 use Rattle.words.specs.declared.answer.Answer.the-variants.{Done, Refused}
 use Rattle.leaders.specs.Leaders.{leadersList}
-use Rattle.outcomes.specs.Outcome.{outcomeOf, wordIn, countIn, decodedAs, wordOf, countOf}
+use Rattle.outcomes.specs.Outcome.{decodedAs, wordOf, countOf}
 use Rattle.decoder.specs.Causes.{decodeAnswer}
 use Rattle.outcomes.specs.declared.outcome.Reading.{Reading}
 use Rattle.outcomes.specs.declared.outcome.Reading.the-variants.{Nearest, Within}
 use Rattle.outcomes.specs.declared.outcome.Outcome.the-variants.{Clean}
-
--- the slots of a word, by a list of leaders and check rows
-abbrev pub wordBy : Reading → List ℕ → List ℕ → ℕ → ℕ
-wordBy reading leaders checks w = wordIn (outcomeOf reading w (getD leaders (syndrome checks w) 0)) w
-
-abbrev pub countBy : Reading → List ℕ → List ℕ → ℕ → ℕ
-countBy reading leaders checks w = countIn (outcomeOf reading w (getD leaders (syndrome checks w) 0))
 
 -- Decode either refuses under 1 to 9 with every list unchanged, or succeeds. Then slot i of the codewords and of the counts is the answer
 -- to word i, 255 meaning far, the working list holds the leaders, and later slots are as they were; dmin is the minimum distance, demand 3

@@ -19,7 +19,8 @@ ghost use Rattle.coding.specs.Weight.{dmin};
 ghost use Rattle.words.specs.Refusal.{ifDone};
 ghost use Rattle.words.specs.declared.answer.Answer.the-variants.{Done};
 ghost use Rattle.decoder.specs.Causes.{decodeAnswer};
-ghost use Rattle.decoder.specs.Decoded.{wordBy, countBy, Decoded};
+ghost use Rattle.decoder.specs.Inner.SlotsBy.{wordBy, countBy};
+ghost use Rattle.decoder.specs.Decoded.{Decoded};
 
 // Each word is decoded with its leader; the later slots keep their values.
 fn decode_words(

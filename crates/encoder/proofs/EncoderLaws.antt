@@ -10,7 +10,8 @@ use lib.ListN.{length, getD}
 use borrow.Author.Tests.{eq-eqb, ne-eqb, not-false}
 use Rattle.coding.specs.Lists.{first, padded}
 use Rattle.coding.specs.Matrix.{encode, Codeword, Inside, messageOf, isCodeword}
-use Rattle.coding.specs.Reduced.{reduce, Traced}
+use Rattle.coding.specs.Reduce.{reduce}
+use Rattle.coding.specs.Reduced.{Traced}
 use Rattle.coding.specs.Check.{checks, syndrome}
 use Rattle.coding.proofs.ListLaws.{map-same}
 use Rattle.coding.proofs.SearchLaws.{first-same, first-before, codeword-test, true-false}
@@ -23,7 +24,8 @@ use Rattle.words.specs.Lists.{listAnswer}
 use Rattle.words.specs.declared.answer.Refusal.the-variants.{NoCodeword}
 use Rattle.words.specs.declared.answer.Answer.{Answer}
 use Rattle.words.specs.declared.answer.Answer.the-variants.{Done, Refused}
-use Rattle.words.proofs.ListLaws.{list-in, goes}
+use Rattle.words.proofs.WordListLaws.{list-in}
+use Rattle.words.proofs.AnswerLaws.{goes}
 use Rattle.words.specs.Accepted.{matrixAnswer, Accepted}
 use Rattle.words.proofs.AcceptedLaws.{accepted-in}
 use Rattle.words.proofs.CodeLaws.{one-is, back-is, codeword-syndrome}

@@ -17,7 +17,7 @@ use Rattle.coding.specs.Lists.{first}
 use Rattle.coding.specs.Word.{bit, weight}
 use Rattle.coding.proofs.WordLaws.{and-half, and-odd, bit-lt}
 use Rattle.coding.proofs.WeightLaws.{weight-zero}
-use Rattle.golay.specs.Lanes.{lanes}
+use Rattle.golay.specs.Inner.Lanes.{lanes}
 
 -- what holds of every entry of a list
 abbrev pub Each : (ℕ → Type 0) → List ℕ → Type 0

@@ -1,4 +1,4 @@
 pub mod LaneLaws
 pub mod NearLaws
-pub mod StepLaws
-pub mod AnswerLaws
+pub mod PatternLaws
+pub mod GolayDecodeLaws

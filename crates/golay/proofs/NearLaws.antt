@@ -16,10 +16,10 @@ use Rattle.coding.specs.Word.{_⊕_, bit, weight}
 use Rattle.coding.proofs.WeightLaws.{weight-xor-and}
 use Rattle.coding.proofs.TestLaws.{every-entry}
 use Rattle.coding.proofs.SearchLaws.{first-same}
-use Rattle.coding.proofs.CountLaws.{getD-tabulate}
+use Rattle.coding.proofs.ListLaws.{getD-tabulate}
 use Rattle.golay_code.specs.Golay.{golayChecks}
 use Rattle.golay_code.proofs.GolayLaws.{golay-size, golay-inside}
-use Rattle.golay.specs.Lanes.{lanes}
+use Rattle.golay.specs.Inner.Lanes.{lanes}
 use Rattle.golay.proofs.LaneLaws.{Each, lanes-same, lanes-add, lanes-times, lanes-lt, lanes-high, first-lane}
 
 -- ---- the constants

@@ -1,5 +1,4 @@
-pub mod Lanes
-pub mod Steps
 pub mod Encoded
 pub mod Decoded
 pub mod MessageRead
+pub mod Inner

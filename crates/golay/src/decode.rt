@@ -16,7 +16,7 @@ use words::word::sum;
 use words::word::weight;
 ghost use mathlib.Core.Path.{_≡_};
 ghost use Prim.Native.Nat.{_^_, _<_};
-ghost use Rattle.golay.specs.Steps.{FewInMessage, ErrorPattern};
+ghost use Rattle.golay.specs.Inner.Steps.{FewInMessage, ErrorPattern};
 ghost use Rattle.golay.specs.Decoded.{golayOutcome, Decoded};
 
 pub const RADIUS: u32 = 3;

@@ -8,7 +8,7 @@ ghost use lib.ListN.{getD};
 ghost use Rattle.coding.specs.Lists.{first};
 ghost use Rattle.coding.specs.Word.{_⊕_, weight};
 ghost use Rattle.golay_code.specs.Golay.{golayChecks};
-ghost use Rattle.golay.specs.Lanes.{lanes};
+ghost use Rattle.golay.specs.Inner.Lanes.{lanes};
 
 // Entry j: in each lane, place j of the row.
 const PLACE_LANES: [u64; 12] = [

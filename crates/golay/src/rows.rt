@@ -3,7 +3,7 @@ use words::word::selected;
 ghost use mathlib.Core.Path.{_≡_};
 ghost use Prim.Native.Nat.{_^_, _<_};
 ghost use Rattle.coding.specs.Matrix.{encode};
-ghost use Rattle.coding.specs.Systematic.{systematicSyndrome};
+ghost use Rattle.coding.specs.Inner.SystematicSyndrome.{systematicSyndrome};
 ghost use Rattle.golay_code.specs.Golay.{golayChecks};
 
 // Rows 0 to 10 are rotations of row 0's first 11 digits with a 1, row 11 is eleven ones and a 0; place 0 is the lowest bit.

@@ -1,5 +1,5 @@
-pub mod TableLaws
+pub mod HsiaoTableLaws
 pub mod DiagonalLaws
 pub mod PlaceLaws
-pub mod OutcomeLaws
-pub mod DecodedLaws
+pub mod SingleErrorLaws
+pub mod HsiaoDecodeLaws

@@ -12,12 +12,12 @@ use Rattle.coding.specs.Matrix.{encode}
 use Rattle.coding.specs.Check.{checks, frees}
 use Rattle.coding.specs.Leader.{syndromeOf, noLeader, leaderOf}
 use Rattle.coding.specs.Order.{order, fills, blanks}
-use Rattle.coding.proofs.CountLaws.{length-tabulate, getD-tabulate}
+use Rattle.coding.proofs.ListLaws.{length-tabulate, getD-tabulate}
 use Rattle.coding.proofs.BuildLaws.{all-more, built, fills-length, fills-same, order-below}
 use Rattle.words.specs.Limits.{maxChecks}
 use Rattle.words.specs.Accepted.{Accepted}
 use Rattle.words.proofs.CodeLaws.{frees-are, checks-pad}
-use Rattle.leaders.specs.Built.{columnsOf, builtList}
+use Rattle.leaders.specs.Inner.Built.{columnsOf, builtList}
 use Rattle.leaders.specs.Leaders.{leadersList}
 use Rattle.leaders.proofs.TryLaws.{columns-encode}
 

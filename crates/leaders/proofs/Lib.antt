@@ -1,3 +1,3 @@
 mod TryLaws
 pub mod BuiltLaws
-pub mod PromiseLaws
+pub mod LeaderPromiseLaws

@@ -14,13 +14,14 @@ use Rattle.coding.specs.Word.{_⊕_, weight}
 use Rattle.coding.specs.Matrix.{encode, Inside}
 use Rattle.coding.specs.Check.{syndrome}
 use Rattle.coding.specs.Leader.{noLeader}
-use Rattle.coding.specs.Order.{words, order, fill, fills, blanks, blankCount}
+use Rattle.coding.specs.Order.{words, order, fill, fills, blanks}
+use Rattle.coding.specs.Inner.Blanks.{blankCount}
 use Rattle.coding.proofs.WeightLaws.{weight-zero, weight-pow}
 use Rattle.coding.proofs.MatrixLaws.{encode-xor, encode-zero, row-message}
 use Rattle.coding.proofs.LinearLaws.{syndrome-columns}
-use Rattle.coding.proofs.CountLaws.{length-tabulate, getD-tabulate}
+use Rattle.coding.proofs.ListLaws.{length-tabulate, getD-tabulate}
 use Rattle.coding.proofs.BuildLaws.{fill-blank, fill-held, fills-length, fills-step, fills-done, words-few, words-unit, fills-snoc, fills-append, blank-set, blank-all}
-use Rattle.leaders.specs.Built.{columnsOf, Trying, Tried}
+use Rattle.leaders.specs.Inner.Built.{columnsOf, Trying, Tried}
 
 -- ---- the columns
 

@@ -15,7 +15,7 @@ ghost use Rattle.coding.specs.Check.{syndrome};
 ghost use Rattle.coding.specs.Order.{words, order, fills, blanks};
 ghost use Rattle.words.specs.Limits.{maxChecks};
 ghost use Rattle.leaders.specs.Leaders.{LeadersOf};
-ghost use Rattle.leaders.specs.Built.{columnsOf, Trying, Tried, builtList};
+ghost use Rattle.leaders.specs.Inner.Built.{columnsOf, Trying, Tried, builtList};
 
 // The entry of a syndrome that has no leader yet.
 const BLANK: u32 = 4294967295;

@@ -1,2 +1,2 @@
-mod PackLaws
-pub mod TableLaws
+mod RowPackLaws
+pub mod PivotTableLaws

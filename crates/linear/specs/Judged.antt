@@ -2,8 +2,8 @@
 use mathlib.Core.Path.{_≡_}
 use mathlib.Core.List.{List}
 use Prim.Native.Nat.{ℕ}
-use lib.ListN.{getD, take}
-use Rattle.coding.specs.Matrix.{Codeword, Independent}
+use lib.ListN.{take}
+use Rattle.coding.specs.Matrix.{Independent, Depends}
 use Rattle.words.specs.Accepted.{matrixAnswer, Accepted}
 use Rattle.words.specs.declared.answer.Refusal.the-variants.{Dependent}
 use Rattle.words.specs.declared.answer.Answer.{Answer}
@@ -15,4 +15,4 @@ pub record Judged (n k : ℕ) (rows : List ℕ) (r : Answer) : Type 0 where
   pub answer : r ≡ matrixAnswer n k rows
   pub accepted : r ≡ Done → Accepted n k rows
   pub accepts : Accepted n k rows → r ≡ Done
-  pub found : (i : ℕ) → r ≡ Refused (Dependent i) → Codeword (take i rows) (getD rows i 0) × Independent (take i rows)
+  pub found : (i : ℕ) → r ≡ Refused (Dependent i) → Depends rows i × Independent (take i rows)

@@ -1,4 +1,4 @@
-pub mod Eliminated
 pub mod Reduction
 pub mod ReducedRows
 pub mod Judged
+pub mod Inner

@@ -4,7 +4,8 @@ use mathlib.Core.List.{List}
 use Prim.Native.Nat.{ℕ}
 use lib.ListN.{length}
 use Rattle.coding.specs.Lists.{zeros, padded}
-use Rattle.coding.specs.Reduced.{ReducedForm, reducedRows, pivots}
+use Rattle.coding.specs.Reduced.{ReducedForm}
+use Rattle.coding.specs.Reduce.{reducedRows, pivots}
 use Rattle.words.specs.Limits.{maxRows}
 use Rattle.words.specs.Refusal.{ifDone}
 use Rattle.words.specs.Accepted.{matrixAnswer}

@@ -4,7 +4,8 @@ use mathlib.Core.List.{List, map}
 use Prim.Native.Nat.{ℕ}
 use Rattle.coding.specs.Lists.{zeros}
 use Rattle.coding.specs.Matrix.{messageOf}
-use Rattle.coding.specs.Reduced.{reduce, reducedRows, pivots, ByPivot, Traced}
+use Rattle.coding.specs.Reduce.{reduce, reducedRows, pivots}
+use Rattle.coding.specs.Reduced.{ByPivot, Traced}
 use Rattle.words.specs.Refusal.{ifDone}
 use Rattle.words.specs.declared.answer.Answer.{Answer}
 use Rattle.words.specs.declared.answer.Answer.the-variants.{Done}

@@ -10,9 +10,10 @@ ghost use Prim.Native.Nat.{_<_, _≤_, _^_};
 ghost use lib.ListN.{length, set};
 ghost use Rattle.coding.specs.Matrix.{Inside};
 ghost use Rattle.coding.specs.Lists.{zeros, padded};
-ghost use Rattle.coding.specs.Reduced.{wipes, rowsOf};
+ghost use Rattle.coding.specs.Inner.Beside.{wipes};
+ghost use Rattle.coding.specs.Reduce.{rowsOf};
 ghost use Rattle.words.specs.Limits.{maxRows};
-ghost use Rattle.linear.specs.Eliminated.{Eliminated};
+ghost use Rattle.linear.specs.Inner.Eliminated.{Eliminated};
 ghost use Rattle.linear.specs.Reduction.{ReductionOf};
 ghost use Rattle.linear.specs.ReducedRows.{ReducedRowsOf};
 

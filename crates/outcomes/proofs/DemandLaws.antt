@@ -13,12 +13,12 @@ use Rattle.coding.specs.Word.{_⊕_, weight, distance}
 use Rattle.coding.specs.Matrix.{Codeword}
 use Rattle.coding.specs.Check.{checks}
 use Rattle.coding.specs.Weight.{dmin}
-use Rattle.coding.specs.Leader.{syndromeOf, leaderOf, nearestOf}
+use Rattle.coding.specs.Leader.{syndromeOf, leaderOf}
+use Rattle.coding.proofs.LeaderLaws.{nearestOf, near-is}
 use Rattle.coding.specs.Radius.{NearestRule, RadiusRules}
 use Rattle.coding.proofs.WordLaws.{xor-cancel}
 use Rattle.coding.proofs.WeightLaws.{weight-none, distance-sym, distance-tri}
 use Rattle.coding.proofs.DistanceLaws.{codeword-apart}
-use Rattle.coding.proofs.DecodeLaws.{near-is}
 use Rattle.coding.proofs.RadiusLaws.{one-within, radius-rules}
 use Rattle.words.specs.Accepted.{Accepted}
 use Rattle.words.proofs.CodeLaws.{syndrome-below, light}

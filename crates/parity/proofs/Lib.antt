@@ -1,2 +1,2 @@
-mod PackLaws
-pub mod ChecksLaws
+mod CheckPackLaws
+pub mod ParityLaws

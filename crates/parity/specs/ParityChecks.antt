@@ -6,7 +6,7 @@ use Prim.Native.Nat.{ℕ, _+_, _^_, _<_}
 use lib.ListN.{length, getD}
 use Rattle.coding.specs.Lists.{zeros, padded}
 use Rattle.coding.specs.Matrix.{Codeword}
-use Rattle.coding.specs.Reduced.{reducedRows, pivots}
+use Rattle.coding.specs.Reduce.{reducedRows, pivots}
 use Rattle.coding.specs.Check.{checks, frees, FreePlaces, CheckRow, syndrome}
 use Rattle.words.specs.Limits.{maxChecks}
 use Rattle.words.specs.Refusal.{ifDone}

@@ -12,7 +12,7 @@ ghost use mathlib.Core.List.{map};
 ghost use Prim.Native.Nat.{_-_, _≤_};
 ghost use lib.ListN.{length, take, drop};
 ghost use Rattle.coding.specs.Lists.{zeros, padded};
-ghost use Rattle.coding.specs.Reduced.{freesFrom};
+ghost use Rattle.coding.specs.Reduce.{freesFrom};
 ghost use Rattle.coding.specs.Check.{column, check, syndrome};
 ghost use Rattle.words.specs.Limits.{maxChecks};
 ghost use Rattle.parity.specs.ParityChecks.{CodeOf, ParityChecksOf};

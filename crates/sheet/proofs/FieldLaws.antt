@@ -1,9 +1,8 @@
 -- Laws of the reading: what a field that was read leaves known, and one step of the recursion over fields. Assumes nothing.
-use mathlib.Core.Path.{_≡_, refl, sym, _∙_}
+use mathlib.Core.Path.{_≡_, refl}
 use mathlib.Core.Bool.{Bool, true, false, cond}
 use mathlib.Core.List.{List}
 use Prim.Native.Nat.{ℕ, zero, suc, _+_, _-_, _≤_, _<_}
-use native.Mathlib.Decide.{decLe}
 use native.Mathlib.Omega.{arith}
 use borrow.Author.Tests.{ltb-false, leb-false, lt-ltb, le-ltb}
 use lib.Dec.{ltb, leb}
@@ -78,21 +77,3 @@ pub at-end : (d : ℕ) (s : List ℕ) (at last : ℕ) (contents : List Content) 
 unfolding sheetFrom
 at-end zero s at last contents h = refl
 at-end (suc d) s at last contents h = rw (le-ltb at (length s) h)
-
--- enough steps are enough: with a step for each byte left, more of them change nothing
-pub enough-steps : (d e : ℕ) (s : List ℕ) (at last : ℕ) (contents : List Content) → length s ≤ d + at → length s ≤ e + at
-    → sheetFrom d s at last contents ≡ sheetFrom e s at last contents
-unfolding sheetFrom
-enough-steps zero e s at last contents h k = sym (at-end e s at last contents (omega arith))
-enough-steps (suc d) zero s at last contents h k = at-end (suc d) s at last contents (omega arith)
-enough-steps (suc d) (suc e) s at last contents h k =
-    go (decLe (length s) at) (fieldAt s at last) refl (λ next tag contents l. enough-steps d e s next tag contents (omega arith) (omega arith))
-  where
-    go : Dec (length s ≤ at) → (f : Field) → fieldAt s at last ≡ f
-        → ((next tag : ℕ) (contents : List Content) → at < next → sheetFrom d s next tag contents ≡ sheetFrom e s next tag contents)
-        → sheetFrom (suc d) s at last contents ≡ sheetFrom (suc e) s at last contents
-    go (yes l) f g rec = at-end (suc d) s at last contents l ∙ sym (at-end (suc e) s at last contents l)
-    go (no l) (Bad c) g rec = stops-at (suc d) s at last contents c (omega arith) (omega arith) g ∙ sym (stops-at (suc e) s at last contents c (omega arith) (omega arith) g)
-    go (no l) (Got tag content next) g rec =
-        let G = good s at last tag content next (omega arith) g in
-        rw (lt-ltb at (length s) (omega arith), g) (rec next tag (set contents tag content) (omega (arith, G .longer)))

@@ -1,4 +1,5 @@
-pub mod WordsLaws
+pub mod SpanLaws
 pub mod ContentLaws
 pub mod FieldLaws
 pub mod PlacedLaws
+pub mod StepsMeaning

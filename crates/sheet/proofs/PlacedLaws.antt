@@ -21,7 +21,7 @@ use Rattle.sheet.specs.declared.field.Content.{Content}
 use Rattle.sheet.specs.declared.field.Content.the-variants.{Absent, Byte, Words}
 use Rattle.sheet.specs.declared.field.Field.{Field}
 use Rattle.sheet.specs.declared.field.Field.the-variants.{Got, Bad}
-use Rattle.sheet.proofs.WordsLaws.{length-words, word-of}
+use Rattle.sheet.proofs.SpanLaws.{length-words, word-of}
 use Rattle.sheet.proofs.FieldLaws.{good}
 
 abbrev Within : List ℕ → Span → Type 0

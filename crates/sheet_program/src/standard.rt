@@ -9,7 +9,7 @@ ghost use Prim.Native.Nat.{_<_};
 ghost use lib.ListN.{length};
 ghost use Rattle.io.specs.Counts.{Counts};
 ghost use Rattle.sheet.specs.Sheet.{maxSheet};
-ghost use Rattle.sheet_program.specs.Enough.{Enough};
+ghost use Rattle.sheet_program.specs.Inner.Enough.{Enough};
 
 fn complain(text: &[u8]) {
     io::write_all(STDERR_FILENO, b"decode_sheet: ");

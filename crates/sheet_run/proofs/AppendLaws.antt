@@ -6,7 +6,7 @@ use native.Mathlib.Nat.{add-zero}
 use native.Mathlib.Omega.{arith}
 use lib.ListN.{length, take, drop, set, length-append, length-drop, take-append-drop}
 use lib.Seq.{sets-eq, length-take-le, drop-drop, take-at, drop-at}
-use Rattle.sheet_run.specs.Appended.{Appends}
+use Rattle.sheet_run.specs.Inner.Appended.{Appends}
 
 module _ {before : List ℕ} {at : ℕ} {bytes after : List ℕ} {next : ℕ} (A : Appends before at bytes after next) where
   front : length (take at before ++ bytes) ≡ next

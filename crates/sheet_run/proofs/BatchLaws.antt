@@ -29,7 +29,7 @@ use Rattle.outcomes.specs.declared.outcome.Outcome.{Outcome}
 use Rattle.outcomes.specs.declared.outcome.Outcome.the-variants.{Clean, Mended, Far}
 use Rattle.decoder.proofs.CauseLaws.{Passed, batch-in}
 use Rattle.sheet_run.specs.Output.{ending, wordLine, wordLines, refusedLine, codeLine, linesOf, batchOutput}
-use Rattle.sheet_run.specs.Slots.{slotEnding, slotLine, slotLines}
+use Rattle.sheet_run.specs.Inner.Slots.{slotEnding, slotLine, slotLines}
 
 -- ---- the lines by the slots
 

@@ -5,3 +5,4 @@ pub mod LineLaws
 pub mod BatchLaws
 pub mod CutLaws
 pub mod RunLaws
+pub mod DecimalMeaning

@@ -8,10 +8,10 @@ use native.Mathlib.Omega.{arith}
 use lib.ListN.{length, getD, take}
 use lib.Seq.{take-length}
 use Rattle.coding.specs.Word.{bit}
-use Rattle.coding.proofs.CountLaws.{length-tabulate}
+use Rattle.coding.proofs.ListLaws.{length-tabulate}
 use Rattle.sheet_run.specs.Decimal.{digit, decimal}
 use Rattle.sheet_run.specs.Output.{space, lineFeed, refusedText, refusedLine, codeLine, digitsOf}
-use Rattle.sheet_run.specs.Slots.{slotEnding, slotLine, slotLines}
+use Rattle.sheet_run.specs.Inner.Slots.{slotEnding, slotLine, slotLines}
 
 pub refused-parts : (number value : ℕ) → (refusedText ++ space ∷ []) ++ (decimal number ++ space ∷ []) ++ (decimal value ++ lineFeed ∷ []) ≡ refusedLine number value
 unfolding refusedLine

@@ -7,8 +7,8 @@ use native.Mathlib.Omega.{arith}
 use lib.ListN.{length, take, drop}
 use lib.Seq.{take-at, take-all}
 use Rattle.sheet.specs.Words.{wordsAt}
-use Rattle.sheet.proofs.WordsLaws.{words-cut, length-words}
-use Rattle.sheet_run.specs.Loaded.{Loaded}
+use Rattle.sheet.proofs.SpanLaws.{words-cut, length-words}
+use Rattle.sheet_run.specs.Inner.Loaded.{Loaded}
 
 module _ {s : List ℕ} {at count : ℕ} {before : List ℕ} {r : ℕ} {after : List ℕ} (L : Loaded s at count before r after) where
   loaded-are : take r after ≡ wordsAt s at r

@@ -7,7 +7,7 @@ use native.Mathlib.Omega.{arith}
 use borrow.Author.Tests.{le-leb, lt-leb}
 use lib.ListN.{length, drop}
 use lib.Seq.{length-take-le}
-use Rattle.sheet_run.specs.Appended.{Appends}
+use Rattle.sheet_run.specs.Inner.Appended.{Appends}
 use Rattle.sheet.specs.Sheet.{sheetOf}
 use Rattle.sheet_run.specs.Output.{printed, outputOf}
 use Rattle.sheet_run.specs.Run.{maxOutput, Ran}

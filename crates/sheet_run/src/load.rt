@@ -4,7 +4,7 @@ ghost use mathlib.Core.Path.{_≡_};
 ghost use Prim.Native.Nat.{_+_, _*_, _≤_};
 ghost use lib.ListN.{length};
 ghost use Rattle.sheet.specs.Words.{wordAt};
-ghost use Rattle.sheet_run.specs.Loaded.{Loaded};
+ghost use Rattle.sheet_run.specs.Inner.Loaded.{Loaded};
 
 // The word whose four bytes begin at this position.
 fn word_at(bytes: &[u8], at: usize) -> u32

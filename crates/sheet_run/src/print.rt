@@ -3,10 +3,10 @@ ghost use mathlib.Core.List.{[], _∷_, _++_};
 ghost use Prim.Native.Nat.{_+_, _*_, _≤_};
 ghost use lib.ListN.{length};
 ghost use mathlib.Core.Path.{_≡_};
-ghost use Rattle.sheet_run.specs.Appended.{Appends};
+ghost use Rattle.sheet_run.specs.Inner.Appended.{Appends};
 ghost use Rattle.sheet_run.specs.Decimal.{decimal};
 ghost use Rattle.sheet_run.specs.Output.{refusedLine, codeLine, digitsOf};
-ghost use Rattle.sheet_run.specs.Slots.{slotEnding, slotLine, slotLines};
+ghost use Rattle.sheet_run.specs.Inner.Slots.{slotEnding, slotLine, slotLines};
 
 const SPACE: u8 = 32;
 

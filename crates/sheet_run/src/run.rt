@@ -15,7 +15,7 @@ use words::limits::MAX_WORDS;
 ghost use Prim.Native.Nat.{_+_, _*_, _≤_};
 ghost use lib.ListN.{length};
 ghost use Rattle.words.specs.Refusal.{numberOf, valueOf};
-ghost use Rattle.sheet_run.specs.Appended.{Appends};
+ghost use Rattle.sheet_run.specs.Inner.Appended.{Appends};
 ghost use Rattle.sheet_run.specs.Output.{refusedLine, batchOutput, printed};
 ghost use Rattle.sheet_run.specs.Run.{maxOutput, Ran};
 

@@ -8,7 +8,7 @@ use lib.Count.{ones, onesIn, trailingZeros}
 use Rattle.coding.specs.Lists.{tabulate}
 use Rattle.coding.specs.Word.{_⊕_, parity, distance}
 use Rattle.coding.specs.Matrix.{encode, messageOf, Codeword}
-use Rattle.coding.specs.Reduced.{reducedRows}
+use Rattle.coding.specs.Reduce.{reducedRows}
 use Rattle.coding.specs.Weight.{dmin, weightCount, weightCounts}
 use Rattle.coding.specs.Radius.{RadiusRules}
 use Rattle.coding.specs.Leader.{leaderOf}
@@ -24,7 +24,7 @@ use Rattle.outcomes.specs.declared.outcome.Outcome.the-variants.{Clean, Mended,
 use Rattle.golay_code.specs.Golay.{golayChecks, golayRows}
 use Rattle.golay_code.proofs.GolayLaws.{golay-accepted}
 use Rattle.golay.specs.Decoded.{golayOutcome}
-use Rattle.golay.proofs.AnswerLaws.{golay-rules}
+use Rattle.golay.proofs.GolayDecodeLaws.{golay-rules}
 use Rattle.hsiao.specs.Table.{columns}
 use Rattle.hsiao.specs.Outcome.{outcomeOf}
 use Rattle.hsiao.specs.declared.outcomes.Outcome.the-variants as split

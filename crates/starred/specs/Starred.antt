@@ -4,7 +4,7 @@ use mathlib.Core.Path.{_≡_}
 use mathlib.Core.List.{[], _∷_, map}
 use Rattle.coding.specs.Lists.{tabulate}
 use Rattle.coding.specs.Matrix.{encode, messageOf}
-use Rattle.coding.specs.Reduced.{reducedRows}
+use Rattle.coding.specs.Reduce.{reducedRows}
 use Rattle.coding.specs.Weight.{dmin, weightCounts}
 use Rattle.coding.specs.Leader.{leaderOf}
 use Rattle.words.specs.Refusal.{numberOf, valueOf}

@@ -17,101 +17,101 @@ use Rattle.coding.specs.Matrix.{encode}
 use Rattle.coding.specs.Weight.{count, weightCount, weightCounts, dmin, MinimumDistance, Lightest}
 use Rattle.coding.proofs.WeightLaws.{weight-zero}
 use Rattle.coding.proofs.MatrixLaws.{encode-lt}
-use Rattle.coding.proofs.CountLaws.{length-tabulate, getD-tabulate, count-none, count-some}
+use Rattle.coding.proofs.ListLaws.{length-tabulate, getD-tabulate}
+use Rattle.coding.proofs.CountLaws.{count-none, count-some}
 use Rattle.coding.proofs.WeightCountLaws.{weightCount-messages, weightCounts-total}
 use Rattle.words.specs.declared.answer.Refusal.{Refusal}
 use Rattle.words.specs.declared.answer.Answer.the-variants.{Done, Refused}
-use Rattle.words.proofs.ShapeLaws.{refused-done}
+use Rattle.words.proofs.AnswerLaws.{refused-done}
 use Rattle.words.specs.Accepted.{matrixAnswer, Accepted}
 use Rattle.words.proofs.AcceptedLaws.{in-accepted}
 use Rattle.words.proofs.CodeLaws.{distance-is}
 use Rattle.weights.specs.Description.{WeightsOf}
 use Rattle.weights.specs.declared.weights.Weights.{Weights}
-use Rattle.weights.specs.Walked.{Walked}
+use Rattle.weights.specs.Inner.Walked.{Walked}
 use Rattle.weights.specs.declared.walk.Walk.{Walk}
 use Rattle.weights.proofs.WalkLaws.{least-found}
 
-module _ (n k : ℕ) (rows : List ℕ) (A : Accepted n k rows) where
+module _ (n k : ℕ) (rows : List ℕ) (A : Accepted n k rows) (w : Walk) (W : Walked rows (2 ^ length rows) w) where
   D : MinimumDistance n rows (dmin rows)
   D = distance-is n k rows A
 
-  module _ (w : Walk) (W : Walked rows (2 ^ length rows) w) where
-    -- no codeword of n places weighs more than n
-    beyond : (j : ℕ) → n < j → count (λ u. eqb (weight (encode rows u)) j) (2 ^ length rows) ≡ 0
-    beyond j h =
-        count-none (λ u. eqb (weight (encode rows u)) j) (2 ^ length rows)
-        (λ u l. ne-eqb (weight (encode rows u)) j (λ e. absurd (omega (arith, ones-le n (encode rows u) (encode-lt n rows (A .inside) u), e))))
+  -- no codeword of n places weighs more than n
+  beyond : (j : ℕ) → n < j → count (λ u. eqb (weight (encode rows u)) j) (2 ^ length rows) ≡ 0
+  beyond j h =
+      count-none (λ u. eqb (weight (encode rows u)) j) (2 ^ length rows)
+      (λ u l. ne-eqb (weight (encode rows u)) j (λ e. absurd (omega (arith, ones-le n (encode rows u) (encode-lt n rows (A .inside) u), e))))
 
-    count-at : (j : ℕ) → j < 33 → getD (padded 33 (weightCounts n rows)) j 0 ≡ getD (w .counts) j 0
-    count-at j h = go (decLe j n)
-      where
-        long : length (weightCounts n rows) ≡ suc n
-        long = length-tabulate (weightCount n rows) (suc n)
+  count-at : (j : ℕ) → j < 33 → getD (padded 33 (weightCounts n rows)) j 0 ≡ getD (w .counts) j 0
+  count-at j h = go (decLe j n)
+    where
+      long : length (weightCounts n rows) ≡ suc n
+      long = length-tabulate (weightCount n rows) (suc n)
 
-        go : Dec (j ≤ n) → getD (padded 33 (weightCounts n rows)) j 0 ≡ getD (w .counts) j 0
-        go (yes l) =
-            List·getD-append (weightCounts n rows) (zeros (33 - length (weightCounts n rows))) 0 j (omega (arith, long))
-            ∙ getD-tabulate (weightCount n rows) (suc n) j (omega arith)
-            ∙ weightCount-messages n rows (A .inside) (A .independent) j ∙ sym (W .counts j h)
-        go (no l) =
-            let i = j - length (weightCounts n rows) in
-            let e : j ≡ length (weightCounts n rows) + i = omega (arith, long) in
-            ap (λ (x : ℕ). getD (padded 33 (weightCounts n rows)) x 0) e
-            ∙ getD-append-add (weightCounts n rows) (zeros (33 - length (weightCounts n rows))) i 0
-            ∙ getD-replicate (33 - length (weightCounts n rows)) i 0 0 (omega (arith, long, A .range .places))
-            ∙ sym (W .counts j h ∙ beyond j (omega arith))
+      go : Dec (j ≤ n) → getD (padded 33 (weightCounts n rows)) j 0 ≡ getD (w .counts) j 0
+      go (yes l) =
+          List·getD-append (weightCounts n rows) (zeros (33 - length (weightCounts n rows))) 0 j (omega (arith, long))
+          ∙ getD-tabulate (weightCount n rows) (suc n) j (omega arith)
+          ∙ weightCount-messages n rows (A .inside) (A .independent) j ∙ sym (W .counts j h)
+      go (no l) =
+          let i = j - length (weightCounts n rows) in
+          let e : j ≡ length (weightCounts n rows) + i = omega (arith, long) in
+          ap (λ (x : ℕ). getD (padded 33 (weightCounts n rows)) x 0) e
+          ∙ getD-append-add (weightCounts n rows) (zeros (33 - length (weightCounts n rows))) i 0
+          ∙ getD-replicate (33 - length (weightCounts n rows)) i 0 0 (omega (arith, long, A .range .places))
+          ∙ sym (W .counts j h ∙ beyond j (omega arith))
 
-    pub counts-are : w .counts ≡ padded 33 (weightCounts n rows)
-    counts-are =
-        let long : length (weightCounts n rows) ≡ suc n = length-tabulate (weightCount n rows) (suc n) in
-        let size : length (padded 33 (weightCounts n rows)) ≡ 33
-        = length-append (weightCounts n rows) (zeros (33 - length (weightCounts n rows)))
-        ∙ ap (λ (x : ℕ). length (weightCounts n rows) + x) (length-replicate (33 - length (weightCounts n rows)) 0) ∙ room long in
-        ext-getD 0 (w .counts) (padded 33 (weightCounts n rows)) (W .size ∙ sym size) (λ j h. sym (count-at j (rw (W .size) at h)))
-      where
-        room : length (weightCounts n rows) ≡ suc n → length (weightCounts n rows) + (33 - length (weightCounts n rows)) ≡ 33
-        room e = omega (arith, A .range .places)
+  pub counts-are : w .counts ≡ padded 33 (weightCounts n rows)
+  counts-are =
+      let long : length (weightCounts n rows) ≡ suc n = length-tabulate (weightCount n rows) (suc n) in
+      let size : length (padded 33 (weightCounts n rows)) ≡ 33
+      = length-append (weightCounts n rows) (zeros (33 - length (weightCounts n rows)))
+      ∙ ap (λ (x : ℕ). length (weightCounts n rows) + x) (length-replicate (33 - length (weightCounts n rows)) 0) ∙ room long in
+      ext-getD 0 (w .counts) (padded 33 (weightCounts n rows)) (W .size ∙ sym size) (λ j h. sym (count-at j (rw (W .size) at h)))
+    where
+      room : length (weightCounts n rows) ≡ suc n → length (weightCounts n rows) + (33 - length (weightCounts n rows)) ≡ 33
+      room e = omega (arith, A .range .places)
 
-    -- the least weight counted is the minimum distance
-    pub least-is : w .least ≡ dmin rows
-    least-is =
-        W .least ∙ sym (least-found (w .counts) (dmin rows) (D .bounds .0) (omega (arith, D .bounds, A .range .places)) lighter (λ h. some h))
-      where
-        lighter : (i : ℕ) → 1 ≤ i → i < dmin rows → getD (w .counts) i 0 ≡ 0
-        lighter i h l =
-            W .counts i (omega (arith, D .bounds, A .range .places))
-            ∙ count-none (λ u. eqb (weight (encode rows u)) i) (2 ^ length rows)
-            (λ u k. ne-eqb (weight (encode rows u)) i (λ e.
-            absurd (omega (arith, e, D .least (encode rows u) (u, k, refl) (λ z. nonzero u e z)))))
-          where
-            nonzero : (u : ℕ) → weight (encode rows u) ≡ i → encode rows u ≡ 0 → ⊥
-            nonzero u e z = omega (arith, sym e ∙ ap weight z ∙ weight-zero)
+  -- the least weight counted is the minimum distance
+  pub least-is : w .least ≡ dmin rows
+  least-is =
+      W .least ∙ sym (least-found (w .counts) (dmin rows) (D .bounds .0) (omega (arith, D .bounds, A .range .places)) lighter (λ h. some h))
+    where
+      lighter : (i : ℕ) → 1 ≤ i → i < dmin rows → getD (w .counts) i 0 ≡ 0
+      lighter i h l =
+          W .counts i (omega (arith, D .bounds, A .range .places))
+          ∙ count-none (λ u. eqb (weight (encode rows u)) i) (2 ^ length rows)
+          (λ u k. ne-eqb (weight (encode rows u)) i (λ e.
+          absurd (omega (arith, e, D .least (encode rows u) (u, k, refl) (λ z. nonzero u e z)))))
+        where
+          nonzero : (u : ℕ) → weight (encode rows u) ≡ i → encode rows u ≡ 0 → ⊥
+          nonzero u e z = omega (arith, sym e ∙ ap weight z ∙ weight-zero)
 
-        some : dmin rows < 33 → getD (w .counts) (dmin rows) 0 ≢ 0
-        some h z =
-            let (x, (u, k, e), ne, q) = D .attained in
-            let t : weight (encode rows u) ≡ dmin rows = ap weight (sym e) ∙ q in
-            omega (arith, W .counts (dmin rows) h, z, count-some (λ u. eqb (weight (encode rows u)) (dmin rows)) (2 ^ length rows) u k (eq-eqb _ _ t))
+      some : dmin rows < 33 → getD (w .counts) (dmin rows) 0 ≢ 0
+      some h z =
+          let (x, (u, k, e), ne, q) = D .attained in
+          let t : weight (encode rows u) ≡ dmin rows = ap weight (sym e) ∙ q in
+          omega (arith, W .counts (dmin rows) h, z, count-some (λ u. eqb (weight (encode rows u)) (dmin rows)) (2 ^ length rows) u k (eq-eqb _ _ t))
 
-    pub lightest-is : Lightest rows (w .lightest)
-    lightest-is =
-        let (u, h, e, q) = W .lightest (omega (arith, least-is, D .bounds, A .range .places)) in
-        record { codeword = (u, h, e); nonzero = λ z. zero-light z q; weighs = q ∙ least-is }
-      where
-        zero-light : w .lightest ≡ 0 → weight (w .lightest) ≡ w .least → ⊥
-        zero-light z q = omega (arith, sym q ∙ ap weight z ∙ weight-zero, least-is, D .bounds)
+  pub lightest-is : Lightest rows (w .lightest)
+  lightest-is =
+      let (u, h, e, q) = W .lightest (omega (arith, least-is, D .bounds, A .range .places)) in
+      record { codeword = (u, h, e); nonzero = λ z. zero-light z q; weighs = q ∙ least-is }
+    where
+      zero-light : w .lightest ≡ 0 → weight (w .lightest) ≡ w .least → ⊥
+      zero-light z q = omega (arith, sym q ∙ ap weight z ∙ weight-zero, least-is, D .bounds)
 
-    -- the parts of part 3 are read off the walk
-    pub walked-weights : WeightsOf n k rows (record { answer = Done; dmin = w .least; counts = w .counts; lightest = w .lightest })
-    walked-weights = record {
-      answer = sym (in-accepted n k rows A);
-      dmin-is = least-is;
-      counts-are = counts-are;
-      distance = λ _. D;
-      sum = λ _. weightCounts-total n rows (A .inside) (A .independent) ∙ ap (λ (x : ℕ). 2 ^ x) (A .count);
-      lightest = λ _. lightest-is;
-      none = refl;
-    }
+  -- the parts of part 3 are read off the walk
+  pub walked-weights : WeightsOf n k rows (record { answer = Done; dmin = w .least; counts = w .counts; lightest = w .lightest })
+  walked-weights = record {
+    answer = sym (in-accepted n k rows A);
+    dmin-is = least-is;
+    counts-are = counts-are;
+    distance = λ _. D;
+    sum = λ _. weightCounts-total n rows (A .inside) (A .independent) ∙ ap (λ (x : ℕ). 2 ^ x) (A .count);
+    lightest = λ _. lightest-is;
+    none = refl;
+  }
 
 -- on a refusal every other part is 0
 pub refused-weights : (n k : ℕ) (rows : List ℕ) (r : Weights) (c : Refusal) → r .answer ≡ Refused c → matrixAnswer n k rows ≡ Refused c

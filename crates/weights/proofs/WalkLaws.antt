@@ -18,12 +18,12 @@ use Rattle.coding.specs.Lists.{first, zeros, tabulate}
 use Rattle.coding.specs.Word.{_⊕_, weight, distance}
 use Rattle.coding.specs.Matrix.{encode}
 use Rattle.coding.specs.Weight.{count}
-use Rattle.coding.proofs.ListLaws.{getD-map}
+use Rattle.coding.proofs.ListLaws.{getD-map, length-tabulate, getD-tabulate}
 use Rattle.coding.proofs.SearchLaws.{first-is, first-le, first-hit, first-before, first-upto}
-use Rattle.coding.proofs.CountLaws.{length-tabulate, getD-tabulate, count-step, count-same, count-add, count-le, count-found}
+use Rattle.coding.proofs.CountLaws.{count-step, count-same, count-add, count-le, count-found}
 use Rattle.coding.proofs.MatrixLaws.{encode-split}
 use Rattle.coding.proofs.MachineLaws.{shl-one}
-use Rattle.weights.specs.Walked.{leastOf, Tallied, BlockWalked, Walked}
+use Rattle.weights.specs.Inner.Walked.{leastOf, Tallied, BlockWalked, Walked}
 use Rattle.weights.specs.declared.walk.Walk.{Walk}
 
 -- the least weight counted, from what the search over the counts has passed

@@ -1,2 +1,2 @@
-pub mod Walked
 pub mod Description
+pub mod Inner

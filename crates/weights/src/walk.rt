@@ -11,7 +11,7 @@ ghost use lib.ListN.{length, getD};
 ghost use Rattle.coding.specs.Lists.{first, tabulate};
 ghost use Rattle.coding.specs.Word.{distance};
 ghost use Rattle.coding.specs.Matrix.{encode};
-ghost use Rattle.weights.specs.Walked.{leastOf, Tallied, BlockWalked, Walked};
+ghost use Rattle.weights.specs.Inner.Walked.{leastOf, Tallied, BlockWalked, Walked};
 
 // The rows of a block, and its codewords.
 const BLOCK_ROWS: usize = 8;

@@ -14,7 +14,8 @@ use Rattle.coding.proofs.DependLaws.{dependent-is, dependent-there, dependent-b
 use Rattle.words.specs.Limits.{inRange}
 use Rattle.words.specs.Refusal.{unless, andThen}
 use Rattle.words.specs.Shape.{firstOutside, shapeAnswer}
-use Rattle.words.proofs.ShapeLaws.{unless-done, andThen-done, shape-in, in-shape}
+use Rattle.words.proofs.AnswerLaws.{unless-done, andThen-done}
+use Rattle.words.proofs.ShapeLaws.{shape-in, in-shape}
 use Rattle.words.specs.Accepted.{matrixAnswer, Accepted}
 use Rattle.words.specs.declared.answer.Refusal.{Refusal}
 use Rattle.words.specs.declared.answer.Refusal.the-variants.{OutOfRange, RowCount, RowOutside, Dependent}

@@ -9,17 +9,18 @@ use lib.ListN.{length}
 use Rattle.coding.specs.Lists.{padded}
 use Rattle.coding.specs.Word.{weight}
 use Rattle.coding.specs.Matrix.{encode, Codeword, messageOf, IsMessage}
-use Rattle.coding.specs.Reduced.{reduce, reducedRows}
+use Rattle.coding.specs.Reduce.{reduce, reducedRows}
 use Rattle.coding.specs.Check.{checks, frees, syndrome}
 use Rattle.coding.specs.Weight.{dmin, MinimumDistance}
 use Rattle.coding.specs.Leader.{syndromeOf, IsLeader, leaderOf}
-use Rattle.coding.proofs.ReduceLaws.{whole, syndrome-codeword}
+use Rattle.coding.proofs.ReduceLaws.{whole}
+use Rattle.coding.proofs.CheckRowLaws.{syndrome-codeword}
 use Rattle.coding.proofs.EliminateLaws.{check-count}
 use Rattle.coding.proofs.CompactLaws.{rows-count}
 use Rattle.coding.proofs.TraceLaws.{Trace, trace-message, trace-is, message-back}
 use Rattle.coding.proofs.WidthLaws.{syndrome-zeros}
 use Rattle.coding.proofs.DistanceLaws.{minimum-distance}
-use Rattle.coding.proofs.DecodeLaws.{leader-is, leader-light, syndromeOf-lt}
+use Rattle.coding.proofs.LeaderLaws.{leader-is, leader-light, syndromeOf-lt}
 use Rattle.words.specs.Limits.{maxChecks}
 use Rattle.words.specs.Accepted.{Accepted}
 

@@ -1,4 +1,5 @@
+pub mod AnswerLaws
 pub mod ShapeLaws
-pub mod ListLaws
+pub mod WordListLaws
 pub mod AcceptedLaws
 pub mod CodeLaws

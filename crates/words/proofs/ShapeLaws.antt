@@ -1,4 +1,4 @@
--- Laws of causes in order, and of the causes 1 to 3. Assumes nothing.
+-- Laws of the causes 1 to 3. Assumes nothing.
 use mathlib.Core.Path.{_≡_, refl, ap}
 use mathlib.Core.List.{List}
 use mathlib.Core.Bool.{Bool, true, false, not, _&&_}
@@ -11,27 +11,10 @@ use borrow.Author.Tests.{leb-true, le-leb, eqb-true, eq-eqb, lt-ltb, ltb-true, n
 use Rattle.coding.specs.Matrix.{Inside}
 use Rattle.coding.proofs.SearchLaws.{first-is, first-before}
 use Rattle.words.specs.Limits.{maxPlaces, maxRows, maxChecks, InRange, inRange}
-use Rattle.words.specs.Refusal.{unless, andThen}
 use Rattle.words.specs.Shape.{firstOutside, shapeAnswer}
-use Rattle.words.specs.declared.answer.Refusal.{Refusal}
+use Rattle.words.proofs.AnswerLaws.{unless-done}
 use Rattle.words.specs.declared.answer.Refusal.the-variants.{OutOfRange, RowCount, RowOutside}
-use Rattle.words.specs.declared.answer.Answer.{Answer}
-use Rattle.words.specs.declared.answer.Answer.the-variants.{Done, Refused}
-
--- ---- causes in order
-
--- a refusal is no success
-pub refused-done : {c : Refusal} {A : Type 0} → Refused c ≡ Done → A
-refused-done e = let z : _≡_ {A = ℕ} 0 1 = cc in absurd (omega arith)
-
--- a cause that passes: its test holds, and the later causes decide
-pub unless-done : (b : Bool) (c : Refusal) (later : Answer) → unless b c later ≡ Done → (b ≡ true) × (later ≡ Done)
-unless-done true c later e = (refl, e)
-unless-done false c later e = refused-done e
-
-pub andThen-done : (a later : Answer) → andThen a later ≡ Done → (a ≡ Done) × (later ≡ Done)
-andThen-done Done later e = (refl, e)
-andThen-done (Refused c) later e = refused-done e
+use Rattle.words.specs.declared.answer.Answer.the-variants.{Done}
 
 -- ---- cause 1
 

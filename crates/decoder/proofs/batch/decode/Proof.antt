@@ -1,6 +1,6 @@
 -- `decoder::batch::decode`: the causes, then the words. Assumes nothing.
 use mathlib.Core.Path.{sym, _∙_}
-use Rattle.decoder.proofs.PromiseLaws.{decode-refused}
+use Rattle.decoder.proofs.DecodePromiseLaws.{decode-refused}
 use borrow.Author.Needs.{needs}
 use Rattle.decoder.proofs.batch.decode.Statement.{statement}
 use Rattle.decoder.proofs.batch.decode.Tie as tie

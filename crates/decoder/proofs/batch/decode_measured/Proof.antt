@@ -1,6 +1,6 @@
 -- `decoder::batch::decode_measured`: the causes with the minimum distance, then the words. Assumes nothing.
 use mathlib.Core.Path.{sym, _∙_}
-use Rattle.decoder.proofs.PromiseLaws.{decode-refused}
+use Rattle.decoder.proofs.DecodePromiseLaws.{decode-refused}
 use borrow.Author.Needs.{needs}
 use Rattle.decoder.proofs.batch.decode_measured.Statement.{statement}
 use Rattle.decoder.proofs.batch.decode_measured.Tie as tie

@@ -1,7 +1,7 @@
 -- `decoder::batch::decode_passed`: the leaders, then the words. Assumes nothing.
 use mathlib.Core.Path.{sym}
 use native.Mathlib.Omega.{arith}
-use Rattle.decoder.proofs.StepLaws.{Past, rows-fit, checks-fit, size-is, words-fit, lent-long, work-long, syndromes-fit, decode-ends}
+use Rattle.decoder.proofs.DecodeStepLaws.{Past, rows-fit, checks-fit, size-is, words-fit, lent-long, work-long, syndromes-fit, decode-ends}
 use borrow.Author.Needs.{needs}
 use Rattle.decoder.proofs.batch.decode_passed.Statement.{statement}
 use Rattle.decoder.proofs.batch.decode_passed.Tie as tie

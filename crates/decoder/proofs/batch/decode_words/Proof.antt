@@ -3,13 +3,13 @@ use mathlib.Core.Path.{_≡_, sym, ap, _∙_}
 use mathlib.Core.List.{List, map, _++_}
 use Prim.Native.Nat.{ℕ, _≤_, _<_, _-_}
 use lib.ListN.{length, getD, drop, set, length-set, length-map}
-use borrow.Author.Needs.{scaled-fits}
+use borrow.Author.Needs.{scaled-fits, needs}
 use Rattle.coding.specs.Check.{syndrome}
-use Rattle.coding.proofs.ListLaws.{getD-map, over, over-set, over-all}
+use Rattle.coding.proofs.ListLaws.{getD-map}
+use Rattle.coding.proofs.LoopLaws.{over, over-set, over-all}
 use Rattle.outcomes.specs.Outcome.{outcomeOf, wordIn, countIn}
-use Rattle.decoder.specs.Decoded.{wordBy, countBy}
+use Rattle.decoder.specs.Inner.SlotsBy.{wordBy, countBy}
 use Rattle.outcomes.specs.declared.outcome.Outcome.{Outcome}
-use borrow.Author.Needs.{needs}
 use native.Mathlib.Omega.{arith}
 use Rattle.decoder.proofs.batch.decode_words.Statement.{statement}
 use Rattle.decoder.proofs.batch.decode_words.Tie as tie

@@ -4,7 +4,8 @@ use lib.ListN.{length}
 use Rattle.coding.specs.Matrix.{encode}
 use Rattle.words.specs.Accepted.{matrixAnswer}
 use Rattle.words.specs.Lists.{listAnswer}
-use Rattle.words.proofs.ListLaws.{list-in, stays, goes, kept, written}
+use Rattle.words.proofs.WordListLaws.{list-in}
+use Rattle.words.proofs.AnswerLaws.{stays, goes, kept, written}
 use Rattle.encoder.proofs.EncoderLaws.{encoded}
 use borrow.Author.Needs.{needs}
 use Rattle.encoder.proofs.encode.encode.Statement.{statement}

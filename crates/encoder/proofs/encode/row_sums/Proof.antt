@@ -4,7 +4,8 @@ use mathlib.Core.List.{List, map}
 use Prim.Native.Nat.{ℕ, _≤_, _<_, _-_}
 use lib.ListN.{length, set, length-map, length-set}
 use Rattle.coding.specs.Matrix.{encode}
-use Rattle.coding.proofs.ListLaws.{getD-map, over, over-set, over-all}
+use Rattle.coding.proofs.ListLaws.{getD-map}
+use Rattle.coding.proofs.LoopLaws.{over, over-set, over-all}
 use borrow.Author.Needs.{needs}
 use native.Mathlib.Omega.{arith}
 use Rattle.encoder.proofs.encode.row_sums.Statement.{statement}

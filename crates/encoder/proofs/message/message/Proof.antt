@@ -12,7 +12,8 @@ use Rattle.words.specs.Lists.{listAnswer}
 use Rattle.encoder.specs.MessagesRead.{firstOther}
 use Rattle.words.proofs.AcceptedLaws.{accepted-in}
 use Rattle.encoder.proofs.EncoderLaws.{messages-are, messages-read, other-refuses, other-passes, past, other-found}
-use Rattle.words.proofs.ListLaws.{list-in, stays, goes, kept, written}
+use Rattle.words.proofs.WordListLaws.{list-in}
+use Rattle.words.proofs.AnswerLaws.{stays, goes, kept, written}
 use borrow.Author.Needs.{needs}
 use Rattle.encoder.proofs.message.message.Statement.{statement}
 use Rattle.encoder.proofs.message.message.Tie as tie

@@ -4,7 +4,7 @@ use Prim.Native.Nat.{_^_}
 use borrow.Author.Tests.{ltb-true, not-true, not-false}
 use Rattle.outcomes.specs.Outcome.{wordIn, countIn}
 use Rattle.outcomes.specs.declared.outcome.Outcome.{Outcome}
-use Rattle.golay.proofs.AnswerLaws.{decode-refused, decode-done}
+use Rattle.golay.proofs.GolayDecodeLaws.{decode-refused, decode-done}
 use borrow.Author.Needs.{needs}
 use Rattle.golay.proofs.decode.decode.Statement.{statement}
 use Rattle.golay.proofs.decode.decode.Tie as tie

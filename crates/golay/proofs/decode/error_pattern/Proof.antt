@@ -3,8 +3,8 @@ use mathlib.Core.Path.{sym, subst}
 use Prim.Native.Nat.{ℕ}
 use Rattle.coding.specs.Matrix.{encode}
 use Rattle.golay_code.specs.Golay.{golayChecks}
-use Rattle.golay.specs.Steps.{Pattern, FewInMessage}
-use Rattle.golay.proofs.StepLaws.{sum-lt, error-found, error-none, other-pattern, exchange}
+use Rattle.golay.specs.Inner.Steps.{Pattern, FewInMessage}
+use Rattle.golay.proofs.PatternLaws.{sum-lt, error-found, error-none, other-pattern, exchange}
 use borrow.Author.Needs.{needs}
 use Rattle.golay.proofs.decode.error_pattern.Statement.{statement}
 use Rattle.golay.proofs.decode.error_pattern.Tie as tie

@@ -8,7 +8,7 @@ use Rattle.coding.specs.Word.{_⊕_, weight}
 use Rattle.coding.proofs.MachineLaws.{shl-one}
 use Rattle.golay_code.specs.Golay.{golayChecks}
 use Rattle.golay_code.proofs.GolayLaws.{checkWords, checks-are}
-use Rattle.golay.proofs.StepLaws.{few-found, check-pattern, near-hit, row-pattern, few-far}
+use Rattle.golay.proofs.PatternLaws.{few-found, check-pattern, near-hit, row-pattern, few-far}
 use borrow.Author.Needs.{needs}
 use Rattle.golay.proofs.decode.few_in_message.Statement.{statement}
 use Rattle.golay.proofs.decode.few_in_message.Tie as tie

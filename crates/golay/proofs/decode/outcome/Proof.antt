@@ -1,9 +1,9 @@
 -- `golay::decode::outcome`: the steps end the word as the definition does. Assumes nothing.
 use mathlib.Core.Path.{sym, subst, _∙_}
 use Prim.Native.Nat.{ℕ}
-use Rattle.golay.specs.Steps.{ErrorPattern}
-use Rattle.golay.proofs.StepLaws.{syndrome-lt}
-use Rattle.golay.proofs.AnswerLaws.{outcome-is, clean-is}
+use Rattle.golay.specs.Inner.Steps.{ErrorPattern}
+use Rattle.golay.proofs.PatternLaws.{syndrome-lt}
+use Rattle.golay.proofs.GolayDecodeLaws.{outcome-is, clean-is}
 use borrow.Author.Needs.{needs}
 use Rattle.golay.proofs.decode.outcome.Statement.{statement}
 use Rattle.golay.proofs.decode.outcome.Tie as tie

@@ -6,7 +6,7 @@ use lib.Dec.{ltb, lit≤}
 use lib.Pow.{shl-exact}
 use borrow.Author.Tests.{ltb-true, not-true, not-false}
 use Rattle.coding.specs.Word.{_⊕_}
-use Rattle.golay.proofs.AnswerLaws.{encode-refused, encode-done}
+use Rattle.golay.proofs.GolayDecodeLaws.{encode-refused, encode-done}
 use borrow.Author.Needs.{needs}
 use Rattle.golay.proofs.encode.encode.Statement.{statement}
 use Rattle.golay.proofs.encode.encode.Tie as tie

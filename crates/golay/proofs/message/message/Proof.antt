@@ -1,7 +1,7 @@
 -- `golay::message::message`: the syndrome tells the codewords, and the shift leaves the message places. Assumes nothing.
 use mathlib.Core.Path.{sym, _∙_}
 use borrow.Author.Tests.{not-true, not-false}
-use Rattle.golay.proofs.AnswerLaws.{read-outside, read-refused, read-done}
+use Rattle.golay.proofs.GolayDecodeLaws.{read-outside, read-refused, read-done}
 use borrow.Author.Needs.{needs}
 use Rattle.golay.proofs.message.message.Statement.{statement}
 use Rattle.golay.proofs.message.message.Tie as tie

@@ -8,7 +8,7 @@ use lib.Bits.{bitAnd, and-mask}
 use lib.Pow.{shr-shr}
 use Rattle.coding.specs.Word.{weight, bit}
 use Rattle.golay_code.specs.Golay.{golayChecks}
-use Rattle.golay.specs.Lanes.{lanes}
+use Rattle.golay.specs.Inner.Lanes.{lanes}
 use Rattle.golay.proofs.LaneLaws.{lanes-same, overlap-next, overlap-none}
 use Rattle.golay.proofs.NearLaws.{placeWords, place-lanes, overlaps-lt}
 use borrow.Author.Needs.{needs}

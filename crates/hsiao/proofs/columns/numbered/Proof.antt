@@ -10,7 +10,7 @@ use lib.ListN.{length, getD}
 use borrow.Author.Tests.{eq-eqb, ne-eqb}
 use Rattle.coding.specs.Lists.{first}
 use Rattle.hsiao.specs.Table.{columns}
-use Rattle.hsiao.proofs.TableLaws.{columns-odd, columns-length}
+use Rattle.hsiao.proofs.HsiaoTableLaws.{columns-odd, columns-length}
 use Rattle.hsiao.proofs.PlaceLaws.{numberBelow, number-none, number-found, number-passed}
 use borrow.Author.Needs.{needs}
 use Rattle.hsiao.proofs.columns.numbered.Statement.{statement}

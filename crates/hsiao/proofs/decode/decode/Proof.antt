@@ -3,8 +3,8 @@ use mathlib.Core.Path.{_≡_, ap, _∙_}
 use Rattle.hsiao.specs.Table.{columns, syndromeOf}
 use Rattle.hsiao.specs.Outcome.{outcomeOf, wordIn, countIn}
 use Rattle.hsiao.specs.declared.outcomes.Outcome.{Outcome}
-use Rattle.hsiao.proofs.TableLaws.{columns-odd, distance-four}
-use Rattle.hsiao.proofs.DecodedLaws.{radius-one, told}
+use Rattle.hsiao.proofs.HsiaoTableLaws.{columns-odd, distance-four}
+use Rattle.hsiao.proofs.HsiaoDecodeLaws.{radius-one, told}
 use borrow.Author.Needs.{needs}
 use Rattle.hsiao.proofs.decode.decode.Statement.{statement}
 use Rattle.hsiao.proofs.decode.decode.Tie as tie

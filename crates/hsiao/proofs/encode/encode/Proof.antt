@@ -4,7 +4,7 @@ use Prim.Native.Nat.{_^_, _<_}
 use lib.ListN.{length}
 use Rattle.coding.proofs.ColumnLaws.{check-is, encoded-codeword}
 use Rattle.hsiao.specs.Table.{columns}
-use Rattle.hsiao.proofs.TableLaws.{columns-odd, columns-length}
+use Rattle.hsiao.proofs.HsiaoTableLaws.{columns-odd, columns-length}
 use borrow.Author.Needs.{needs}
 use Rattle.hsiao.proofs.encode.encode.Statement.{statement}
 use Rattle.hsiao.proofs.encode.encode.Tie as tie

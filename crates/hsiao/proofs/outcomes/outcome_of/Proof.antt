@@ -10,7 +10,7 @@ use Rattle.hsiao.specs.Table.{columns, split}
 use Rattle.hsiao.specs.Outcome.{outcomeAt, outcomeOf}
 use Rattle.hsiao.specs.declared.outcomes.Outcome.{Outcome}
 use Rattle.hsiao.specs.declared.outcomes.Outcome.the-variants.{Mended}
-use Rattle.hsiao.proofs.OutcomeLaws.{outcome-check, outcome-far, outcome-data}
+use Rattle.hsiao.proofs.SingleErrorLaws.{outcome-check, outcome-far, outcome-data}
 use borrow.Author.Needs.{needs}
 use Rattle.hsiao.proofs.outcomes.outcome_of.Statement.{statement}
 use Rattle.hsiao.proofs.outcomes.outcome_of.Tie as tie

@@ -5,7 +5,7 @@ use Rattle.coding.specs.Word.{_⊕_}
 use Rattle.coding.specs.Columns.{SplitPlaces}
 use Rattle.coding.proofs.LinearLaws.{identity-rows}
 use Rattle.hsiao.specs.Table.{columns, split, syndromeOf}
-use Rattle.hsiao.proofs.TableLaws.{columns-length}
+use Rattle.hsiao.proofs.HsiaoTableLaws.{columns-length}
 use borrow.Author.Needs.{needs}
 use Rattle.hsiao.proofs.syndrome.syndrome.Statement.{statement}
 use Rattle.hsiao.proofs.syndrome.syndrome.Tie as tie

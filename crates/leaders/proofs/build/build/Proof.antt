@@ -7,7 +7,7 @@ use mathlib.Core.List.{List}
 use Rattle.coding.specs.Matrix.{encode}
 use Rattle.coding.specs.Order.{order, fills, blanks}
 use Rattle.coding.proofs.MatrixLaws.{encode-lt}
-use Rattle.leaders.specs.Built.{columnsOf}
+use Rattle.leaders.specs.Inner.Built.{columnsOf}
 use Rattle.leaders.proofs.TryLaws.{columns-long, columns-inside}
 use borrow.Author.Needs.{needs}
 use Rattle.leaders.proofs.build.build.Statement.{statement}

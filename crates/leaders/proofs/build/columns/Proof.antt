@@ -6,8 +6,8 @@ use lib.ListN.{set, length-replicate}
 use Rattle.coding.specs.Lists.{zeros}
 use Rattle.coding.specs.Check.{syndrome}
 use Rattle.coding.proofs.MachineLaws.{shl-one}
-use Rattle.coding.proofs.ListLaws.{over, over-set, over-whole}
-use Rattle.leaders.specs.Built.{columnsOf}
+use Rattle.coding.proofs.LoopLaws.{over, over-set, over-whole}
+use Rattle.leaders.specs.Inner.Built.{columnsOf}
 use Rattle.leaders.proofs.TryLaws.{columns-long, columns-at}
 use borrow.Author.Needs.{needs}
 use native.Mathlib.Omega.{arith}

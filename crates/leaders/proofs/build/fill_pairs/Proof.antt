@@ -3,7 +3,7 @@ use mathlib.Core.Path.{_≡_}
 use Prim.Native.Nat.{_-_, _≤_}
 use native.Mathlib.Omega.{arith}
 use Rattle.coding.proofs.MachineLaws.{shl-one}
-use Rattle.leaders.specs.Built.{Tried}
+use Rattle.leaders.specs.Inner.Built.{Tried}
 use Rattle.leaders.proofs.TryLaws.{tried-long, pairs-start, pair-fits, pair-trying, pair-next}
 use borrow.Author.Needs.{needs}
 use Rattle.leaders.proofs.build.fill_pairs.Statement.{statement}

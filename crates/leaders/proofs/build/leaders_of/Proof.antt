@@ -11,7 +11,7 @@ use Rattle.words.specs.Accepted.{Accepted}
 use Rattle.words.proofs.AcceptedLaws.{accepted-in}
 use Rattle.words.proofs.CodeLaws.{checks-below}
 use Rattle.leaders.proofs.BuiltLaws.{leaders-are}
-use Rattle.leaders.proofs.PromiseLaws.{matrix-refuses, leaders-refused, size-is, short-refuses, leaders-written}
+use Rattle.leaders.proofs.LeaderPromiseLaws.{matrix-refuses, leaders-refused, size-is, short-refuses, leaders-written}
 use borrow.Author.Needs.{needs}
 use Rattle.leaders.proofs.build.leaders_of.Statement.{statement}
 use Rattle.leaders.proofs.build.leaders_of.Tie as tie

@@ -3,10 +3,10 @@ use mathlib.Core.Logic.{⊎-elim}
 use mathlib.Core.List.{List}
 use Prim.Native.Nat.{ℕ, _≤_, _-_, _+_}
 use lib.ListN.{length, drop}
-use Rattle.coding.specs.Reduced.{rowsOf}
-use Rattle.coding.proofs.ListLaws.{Packed, packed-start}
+use Rattle.coding.specs.Reduce.{rowsOf}
+use Rattle.coding.proofs.LoopLaws.{Packed, packed-start}
 use Rattle.words.specs.Limits.{maxRows}
-use Rattle.linear.proofs.PackLaws.{row-room, row-push, row-skip, row-end}
+use Rattle.linear.proofs.RowPackLaws.{row-room, row-push, row-skip, row-end}
 use borrow.Author.Needs.{needs}
 use native.Mathlib.Omega.{arith}
 use Rattle.linear.proofs.reduce.compact.Statement.{statement}

@@ -9,7 +9,8 @@ use lib.Pow.{pow-lt}
 use lib.Count.{trailingZeros, trailing-le}
 use Rattle.coding.specs.Word.{bit}
 use Rattle.coding.specs.Matrix.{Depends}
-use Rattle.coding.specs.Reduced.{rest, put, reduce, Traced}
+use Rattle.coding.specs.Reduce.{rest, put, reduce}
+use Rattle.coding.specs.Reduced.{Traced}
 use Rattle.coding.proofs.MachineLaws.{shl-one}
 use Rattle.coding.proofs.MatrixLaws.{row-message}
 use Rattle.coding.proofs.PivotLaws.{ByPlace, Cleared, cleared-start, cleared-step, cleared-end, cleared-zero}

@@ -4,8 +4,8 @@ use mathlib.Core.List.{List}
 use Prim.Native.Nat.{ℕ, _≤_, _-_}
 use lib.ListN.{length, getD, set}
 use Rattle.coding.specs.Word.{_⊕_}
-use Rattle.coding.specs.Reduced.{wipes}
-use Rattle.coding.proofs.ListLaws.{over, over-set, over-next, over-whole}
+use Rattle.coding.specs.Inner.Beside.{wipes}
+use Rattle.coding.proofs.LoopLaws.{over, over-set, over-next, over-whole}
 use Rattle.coding.proofs.TraceLaws.{wipes-at, wipes-length}
 use borrow.Author.Needs.{needs}
 use native.Mathlib.Omega.{arith}

@@ -6,7 +6,8 @@ use lib.Seq.{take-length}
 use Rattle.coding.specs.Lists.{padded}
 use Rattle.words.specs.Limits.{maxRows}
 use Rattle.coding.specs.Matrix.{firstDependent}
-use Rattle.coding.specs.Reduced.{reduce, Traced}
+use Rattle.coding.specs.Reduce.{reduce}
+use Rattle.coding.specs.Reduced.{Traced}
 use Rattle.coding.proofs.DependLaws.{dependent-is}
 use Rattle.coding.proofs.WidthLaws.{inside-wide}
 use Rattle.words.specs.declared.answer.Refusal.the-variants.{Dependent}
@@ -14,7 +15,7 @@ use Rattle.words.specs.declared.answer.Answer.the-variants.{Done, Refused}
 use Rattle.words.proofs.ShapeLaws.{Shaped, shape-in}
 use Rattle.words.proofs.AcceptedLaws.{shape-refused, ends-dependent, ends-done, accepted-in}
 use Rattle.words.specs.Accepted.{matrixAnswer}
-use Rattle.linear.proofs.TableLaws.{reduction-done, reduction-refused, compact-is}
+use Rattle.linear.proofs.PivotTableLaws.{reduction-done, reduction-refused, compact-is}
 use Rattle.words.proofs.CodeLaws.{rows-are}
 use borrow.Author.Needs.{needs}
 use native.Mathlib.Omega.{arith}

@@ -6,10 +6,10 @@ use Prim.Native.Nat.{ℕ, _^_, _≤_, _-_, _+_, _*_, _%_}
 use lib.ListN.{length}
 use Rattle.coding.specs.Word.{_⊕_}
 use Rattle.coding.specs.Check.{check}
-use Rattle.coding.proofs.ListLaws.{Packed, packed-start}
+use Rattle.coding.proofs.LoopLaws.{Packed, packed-start}
 use Rattle.coding.proofs.MachineLaws.{shl-one}
 use Rattle.words.specs.Limits.{maxChecks}
-use Rattle.parity.proofs.PackLaws.{checksFrom, check-room, check-push, check-skip, check-end}
+use Rattle.parity.proofs.CheckPackLaws.{checksFrom, check-room, check-push, check-skip, check-end}
 use borrow.Author.Needs.{needs}
 use native.Mathlib.Omega.{arith}
 use Rattle.parity.proofs.check.check_rows.Statement.{statement}

@@ -4,8 +4,8 @@ use Rattle.coding.specs.Lists.{padded}
 use Rattle.words.specs.Limits.{maxChecks}
 use Rattle.words.specs.Accepted.{Accepted}
 use Rattle.words.proofs.AcceptedLaws.{accepted-in}
-use Rattle.linear.proofs.TableLaws.{reduced-rows, messages-refused, table-size, table-of}
-use Rattle.parity.proofs.ChecksLaws.{checks-few, checks-are, parity-checks}
+use Rattle.linear.proofs.PivotTableLaws.{reduced-rows, messages-refused, table-size, table-of}
+use Rattle.parity.proofs.ParityLaws.{checks-few, checks-are, parity-checks}
 use borrow.Author.Needs.{needs}
 use native.Mathlib.Omega.{arith}
 use Rattle.parity.proofs.check.code_of.Statement.{statement}

@@ -5,9 +5,9 @@ use Prim.Native.Nat.{ℕ, _-_, _≤_, _<_, min}
 use native.Mathlib.Omega.{arith}
 use borrow.Author.Needs.{needs}
 use lib.ListN.{length, drop, set, length-set}
-use Rattle.coding.proofs.ListLaws.{over, over-set}
+use Rattle.coding.proofs.LoopLaws.{over, over-set}
 use Rattle.sheet.specs.Words.{wordsAt}
-use Rattle.sheet.proofs.WordsLaws.{words-cut, length-words, word-of}
+use Rattle.sheet.proofs.SpanLaws.{words-cut, length-words, word-of}
 use Rattle.sheet_run.proofs.load.load.Statement.{statement}
 use Rattle.sheet_run.proofs.load.load.Tie as tie
 

@@ -5,12 +5,12 @@ use native.Mathlib.Nat.{add-zero}
 use native.Mathlib.Omega.{arith}
 use borrow.Author.Needs.{needs}
 use lib.Bits.{and-mask, mask-lt}
-use Rattle.sheet_run.specs.Appended.{Appends}
+use Rattle.sheet_run.specs.Inner.Appended.{Appends}
 use Rattle.sheet_run.specs.Output.{digitsOf}
 use Rattle.sheet_run.specs.Decimal.{digit}
 use Rattle.coding.specs.Word.{bit}
 use Rattle.sheet_run.proofs.AppendLaws.{appends-length, appends-as, appends-none, appends-more}
-use Rattle.coding.proofs.CountLaws.{tabulate-more}
+use Rattle.coding.proofs.ListLaws.{tabulate-more}
 use Rattle.sheet_run.proofs.print.put_digits.Statement.{statement}
 use Rattle.sheet_run.proofs.print.put_digits.Tie as tie
 

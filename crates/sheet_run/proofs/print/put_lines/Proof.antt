@@ -3,8 +3,8 @@ use Prim.Native.Nat.{_+_, _-_, _*_, _≤_}
 use native.Mathlib.Omega.{arith}
 use borrow.Author.Needs.{needs}
 use lib.ListN.{length, take}
-use Rattle.sheet_run.specs.Appended.{Appends}
-use Rattle.sheet_run.specs.Slots.{slotLines}
+use Rattle.sheet_run.specs.Inner.Appended.{Appends}
+use Rattle.sheet_run.specs.Inner.Slots.{slotLines}
 use Rattle.sheet_run.proofs.AppendLaws.{appends-length, appends-as, appends-none, then}
 use Rattle.sheet_run.proofs.LineLaws.{slot-lines-none, slot-lines-more, slot-lines-all}
 use Rattle.sheet_run.proofs.print.put_lines.Statement.{statement}

@@ -7,7 +7,7 @@ use native.Mathlib.Omega.{arith}
 use borrow.Author.Needs.{needs}
 use lib.ListN.{length, getD, take}
 use lib.Seq.{take-suc, take-length}
-use Rattle.sheet_run.specs.Appended.{Appends}
+use Rattle.sheet_run.specs.Inner.Appended.{Appends}
 use Rattle.sheet_run.proofs.AppendLaws.{appends-length, appends-as, appends-none, appends-more}
 use Rattle.sheet_run.proofs.print.put_text.Statement.{statement}
 use Rattle.sheet_run.proofs.print.put_text.Tie as tie

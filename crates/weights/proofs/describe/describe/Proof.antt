@@ -2,8 +2,8 @@
 use mathlib.Core.Path.{sym, _∙_}
 use native.Mathlib.Omega.{arith}
 use Rattle.words.proofs.AcceptedLaws.{accepted-in}
-use Rattle.linear.proofs.TableLaws.{reduced-rows}
-use Rattle.parity.proofs.ChecksLaws.{parity-checks}
+use Rattle.linear.proofs.PivotTableLaws.{reduced-rows}
+use Rattle.parity.proofs.ParityLaws.{parity-checks}
 use Rattle.weights.proofs.DescribeLaws.{walked-weights, refused-weights}
 use borrow.Author.Needs.{needs}
 use Rattle.weights.proofs.describe.describe.Statement.{statement}

@@ -4,7 +4,8 @@ use mathlib.Core.List.{List, map}
 use Prim.Native.Nat.{ℕ, _≤_, _<_, _-_}
 use lib.ListN.{length, set, length-set, length-map}
 use Rattle.coding.specs.Word.{distance}
-use Rattle.coding.proofs.ListLaws.{over, over-set, over-whole, getD-map}
+use Rattle.coding.proofs.LoopLaws.{over, over-set, over-whole}
+use Rattle.coding.proofs.ListLaws.{getD-map}
 use borrow.Author.Needs.{needs}
 use native.Mathlib.Omega.{arith}
 use Rattle.weights.proofs.walk.block_weights.Statement.{statement}

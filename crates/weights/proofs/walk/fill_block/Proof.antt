@@ -5,8 +5,8 @@ use Prim.Native.Nat.{ℕ, _≤_, _<_, _-_}
 use lib.ListN.{length, set, length-set}
 use Rattle.coding.specs.Lists.{tabulate}
 use Rattle.coding.specs.Matrix.{encode}
-use Rattle.coding.proofs.ListLaws.{over, over-set, over-whole}
-use Rattle.coding.proofs.CountLaws.{length-tabulate, getD-tabulate}
+use Rattle.coding.proofs.LoopLaws.{over, over-set, over-whole}
+use Rattle.coding.proofs.ListLaws.{length-tabulate, getD-tabulate}
 use borrow.Author.Needs.{needs}
 use native.Mathlib.Omega.{arith}
 use Rattle.weights.proofs.walk.fill_block.Statement.{statement}

@@ -8,8 +8,8 @@ use lib.Pow.{pow-add}
 use Rattle.coding.specs.Lists.{tabulate}
 use Rattle.coding.specs.Matrix.{encode}
 use Rattle.coding.proofs.MachineLaws.{shl-one}
-use Rattle.coding.proofs.CountLaws.{length-tabulate}
-use Rattle.weights.specs.Walked.{Walked}
+use Rattle.coding.proofs.ListLaws.{length-tabulate}
+use Rattle.weights.specs.Inner.Walked.{Walked}
 use Rattle.weights.proofs.WalkLaws.{walked-start, walked-room, walked-block, block-fits}
 use borrow.Author.Needs.{needs}
 use native.Mathlib.Omega.{arith}

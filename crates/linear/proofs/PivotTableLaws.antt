@@ -8,7 +8,8 @@ use lib.ListN.{length, getD, take, length-map}
 use lib.Seq.{take-at, ext-getD}
 use Rattle.coding.specs.Lists.{zeros, padded}
 use Rattle.coding.specs.Matrix.{messageOf}
-use Rattle.coding.specs.Reduced.{reduce, rowsOf, ReducedForm, reducedRows, pivots, ByPivot, Traced}
+use Rattle.coding.specs.Reduce.{reduce, rowsOf, reducedRows, pivots}
+use Rattle.coding.specs.Reduced.{ReducedForm, ByPivot, Traced}
 use Rattle.coding.proofs.ListLaws.{getD-map}
 use Rattle.coding.proofs.ReduceLaws.{whole}
 use Rattle.coding.proofs.EchelonLaws.{by-pivot, reducedRows-form}
@@ -20,7 +21,7 @@ use Rattle.words.specs.Refusal.{ifDone}
 use Rattle.words.specs.declared.answer.Refusal.{Refusal}
 use Rattle.words.specs.declared.answer.Answer.{Answer}
 use Rattle.words.specs.declared.answer.Answer.the-variants.{Done, Refused}
-use Rattle.words.proofs.ShapeLaws.{refused-done}
+use Rattle.words.proofs.AnswerLaws.{refused-done}
 use Rattle.words.specs.Accepted.{matrixAnswer, Accepted}
 use Rattle.linear.specs.ReducedRows.{ReducedRowsOf}
 use Rattle.linear.specs.Reduction.{MessagesByPivot, ReductionOf}

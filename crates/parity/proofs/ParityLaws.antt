@@ -7,7 +7,7 @@ use native.Mathlib.Omega.{arith}
 use lib.ListN.{length, getD, take}
 use Rattle.coding.specs.Lists.{zeros, padded}
 use Rattle.coding.specs.Word.{_⊕_}
-use Rattle.coding.specs.Reduced.{reduce, freesFrom}
+use Rattle.coding.specs.Reduce.{reduce, freesFrom}
 use Rattle.coding.specs.Check.{check, column, checks}
 use Rattle.coding.proofs.ListLaws.{map-same}
 use Rattle.coding.proofs.CheckRowLaws.{free-places, check-rows}
@@ -20,21 +20,20 @@ use Rattle.words.proofs.AcceptedLaws.{accepted-in}
 use Rattle.words.proofs.CodeLaws.{codeword-syndrome, frees-are}
 use Rattle.parity.specs.ParityChecks.{ParityChecksOf}
 use Rattle.parity.specs.declared.check.ParityChecks.{ParityChecks}
-use Rattle.linear.proofs.TableLaws.{wide, table-take}
-use Rattle.parity.proofs.PackLaws.{checksFrom}
+use Rattle.linear.proofs.PivotTableLaws.{wide, table-take}
+use Rattle.parity.proofs.CheckPackLaws.{checksFrom}
 
-module _ (n k : ℕ) (rows : List ℕ) (A : Accepted n k rows) where
-  module _ (table : List ℕ) (is : table ≡ reduce 32 rows) where
-    pub checks-few : length (freesFrom 0 (take n table)) ≤ maxChecks
-    checks-few = rw (table-take n k rows A table is) (omega (arith, frees-are n k rows A, A .range .checks))
+module _ (n k : ℕ) (rows : List ℕ) (A : Accepted n k rows) (table : List ℕ) (is : table ≡ reduce 32 rows) where
+  pub checks-few : length (freesFrom 0 (take n table)) ≤ maxChecks
+  checks-few = rw (table-take n k rows A table is) (omega (arith, frees-are n k rows A, A .range .checks))
 
-    pub checks-are : checksFrom table n 0 ≡ checks n rows
-    checks-are =
-        ap (λ (l : List ℕ). map (check table) (freesFrom 0 l)) (table-take n k rows A table is)
-        ∙ map-same (check table) (check (reduce n rows)) (freesFrom 0 (reduce n rows)) (λ i h. same (getD (freesFrom 0 (reduce n rows)) i 0))
-      where
-        same : (q : ℕ) → check table q ≡ check (reduce n rows) q
-        same q = ap (λ (x : ℕ). 2 ^ q ⊕ x) (ap (λ (l : List ℕ). column l q) (wide n k rows A table is) ∙ column-zeros (reduce n rows) (32 - n) q)
+  pub checks-are : checksFrom table n 0 ≡ checks n rows
+  checks-are =
+      ap (λ (l : List ℕ). map (check table) (freesFrom 0 l)) (table-take n k rows A table is)
+      ∙ map-same (check table) (check (reduce n rows)) (freesFrom 0 (reduce n rows)) (λ i h. same (getD (freesFrom 0 (reduce n rows)) i 0))
+    where
+      same : (q : ℕ) → check table q ≡ check (reduce n rows) q
+      same q = ap (λ (x : ℕ). 2 ^ q ⊕ x) (ap (λ (l : List ℕ). column l q) (wide n k rows A table is) ∙ column-zeros (reduce n rows) (32 - n) q)
 
 -- the check rows of an accepted matrix are those of its places that are no pivot, and tell the codewords
 pub parity-checks : (n k : ℕ) (rows : List ℕ) (r : ParityChecks) → r .answer ≡ matrixAnswer n k rows

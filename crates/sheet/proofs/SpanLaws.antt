@@ -3,7 +3,7 @@ use mathlib.Core.Path.{_≡_, sym}
 use mathlib.Core.List.{List}
 use Prim.Native.Nat.{ℕ, _+_, _*_, _≤_, _<_}
 use lib.ListN.{length, getD, take}
-use Rattle.coding.proofs.CountLaws.{length-tabulate, getD-tabulate, take-tabulate}
+use Rattle.coding.proofs.ListLaws.{length-tabulate, getD-tabulate, take-tabulate}
 use Rattle.sheet.specs.Words.{wordAt, wordsAt}
 
 pub words-cut : (s : List ℕ) (at count r : ℕ) → r ≤ count → wordsAt s at r ≡ take r (wordsAt s at count)

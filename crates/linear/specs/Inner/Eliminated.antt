@@ -4,7 +4,8 @@ use mathlib.Core.List.{List}
 use Prim.Native.Nat.{ℕ, _≤_, _<_}
 use lib.ListN.{length, take}
 use Rattle.coding.specs.Matrix.{Depends}
-use Rattle.coding.specs.Reduced.{reduce, Traced}
+use Rattle.coding.specs.Reduce.{reduce}
+use Rattle.coding.specs.Reduced.{Traced}
 use Rattle.linear.specs.declared.reduce.Elimination.{Elimination}
 
 -- it ends at the first row that is a sum of earlier ones, or past the last; the rows before it are reduced, in 32 places, and

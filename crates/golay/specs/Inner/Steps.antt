@@ -4,7 +4,7 @@ use mathlib.Core.Logic.{_≢_}
 use Prim.Native.Nat.{ℕ, _+_, _^_, _≤_, _<_}
 use Rattle.coding.specs.Word.{_⊕_, weight}
 use Rattle.coding.specs.Matrix.{encode}
-use Rattle.coding.specs.Systematic.{systematicSyndrome}
+use Rattle.coding.specs.Inner.SystematicSyndrome.{systematicSyndrome}
 use Rattle.golay_code.specs.Golay.{golayChecks}
 
 -- e is an error pattern of at most three places with the syndrome s

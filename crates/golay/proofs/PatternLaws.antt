@@ -14,7 +14,7 @@ use borrow.Author.Tests.{leb-true, leb-false}
 use Rattle.coding.specs.Lists.{first}
 use Rattle.coding.specs.Word.{_⊕_, weight}
 use Rattle.coding.specs.Matrix.{encode}
-use Rattle.coding.specs.Systematic.{systematicSyndrome}
+use Rattle.coding.specs.Inner.SystematicSyndrome.{systematicSyndrome}
 use Rattle.coding.proofs.WordLaws.{xor-cancel-r}
 use Rattle.coding.proofs.WeightLaws.{weight-none, weight-one, weight-pow}
 use Rattle.coding.proofs.SearchLaws.{first-hit, first-before}
@@ -22,7 +22,7 @@ use Rattle.coding.proofs.MatrixLaws.{encode-xor, encode-zero, encode-lt, row-me
 use Rattle.coding.proofs.SystematicLaws.{pattern-syndrome}
 use Rattle.golay_code.specs.Golay.{golayChecks}
 use Rattle.golay_code.proofs.GolayLaws.{golay-size, golay-inside, golay-twice}
-use Rattle.golay.specs.Steps.{Pattern, noPattern, FewInMessage, ErrorPattern}
+use Rattle.golay.specs.Inner.Steps.{Pattern, noPattern, FewInMessage, ErrorPattern}
 
 -- ---- words of 24 places as check places x and message places y
 

@@ -13,7 +13,7 @@ use borrow.Author.Tests.{eqb-true, eqb-false, ltb-true, ltb-false, eq-eqb}
 use Rattle.coding.specs.Radius.{RadiusRules}
 use Rattle.coding.specs.Columns.{SplitWord, splitDistance, units, splitSyndrome, columnPlace, SplitPlaces, SplitCodeword, OddColumns}
 use Rattle.coding.proofs.SearchLaws.{first-hit, first-upto}
-use Rattle.coding.proofs.CountLaws.{length-tabulate, getD-tabulate}
+use Rattle.coding.proofs.ListLaws.{length-tabulate, getD-tabulate}
 use Rattle.coding.proofs.RadiusLaws.{radius-found}
 use Rattle.coding.proofs.ColumnLaws.{split-discrete, split-distance-sym, split-distance-tri, split-distance-self, four-apart, IsColumn, check-changed-distance, info-changed-distance, mend-check, mend-info, near-syndrome}
 use Rattle.hsiao.specs.Table.{split}

@@ -6,8 +6,8 @@ use mathlib.Core.List.{List, []}
 use Prim.Native.Nat.{ℕ, _+_, _≤_, _<_}
 use lib.ListN.{length, getD, drop, set, drop-of-length-le}
 use Rattle.coding.specs.Lists.{padded}
-use Rattle.coding.specs.Reduced.{rowsOf}
-use Rattle.coding.proofs.ListLaws.{Packed, packed-room, packed-push, packed-end}
+use Rattle.coding.specs.Reduce.{rowsOf}
+use Rattle.coding.proofs.LoopLaws.{Packed, packed-room, packed-push, packed-end}
 use Rattle.coding.proofs.CompactLaws.{rows-free, rows-pivot}
 use Rattle.words.specs.Limits.{maxRows}
 

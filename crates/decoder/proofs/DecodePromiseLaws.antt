@@ -12,8 +12,7 @@ use Rattle.words.specs.declared.answer.Refusal.{Refusal}
 use Rattle.words.specs.declared.answer.Answer.{Answer}
 use Rattle.words.specs.declared.answer.Answer.the-variants.{Done, Refused}
 use Rattle.words.proofs.AcceptedLaws.{accepted-in}
-use Rattle.words.proofs.ShapeLaws.{refused-done}
-use Rattle.words.proofs.ListLaws.{kept, written}
+use Rattle.words.proofs.AnswerLaws.{refused-done, kept, written}
 use Rattle.words.proofs.CodeLaws.{distance-is}
 use Rattle.leaders.specs.Leaders.{leadersList}
 use Rattle.decoder.specs.Causes.{decodeAnswer}

@@ -7,7 +7,8 @@ use Rattle.coding.specs.Lists.{tabulate}
 use Rattle.coding.specs.Word.{weight}
 use Rattle.coding.specs.Matrix.{encode}
 use Rattle.coding.specs.Check.{syndrome}
-use Rattle.coding.specs.Order.{words, order, fills, blanks, blankCount}
+use Rattle.coding.specs.Order.{words, order, fills, blanks}
+use Rattle.coding.specs.Inner.Blanks.{blankCount}
 
 -- the syndromes of the words with a single one
 unfoldable pub columnsOf : List ℕ → List ℕ

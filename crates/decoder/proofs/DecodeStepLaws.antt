@@ -16,13 +16,14 @@ use Rattle.leaders.specs.Leaders.{leadersList, LeadersOf}
 use Rattle.leaders.specs.declared.build.Leaders.{Leaders}
 use Rattle.words.proofs.CodeLaws.{checks-below}
 use Rattle.leaders.proofs.BuiltLaws.{leaders-long}
-use Rattle.leaders.proofs.PromiseLaws.{size-is as shift-is, leaders-pass}
+use Rattle.leaders.proofs.LeaderPromiseLaws.{size-is as shift-is, leaders-pass}
 use Rattle.decoder.specs.Causes.{decodeAnswer}
 use Rattle.outcomes.specs.declared.outcome.Reading.{Reading}
 use Rattle.decoder.proofs.CauseLaws.{batch-in}
-use Rattle.decoder.specs.Decoded.{wordBy, countBy, Decoded}
+use Rattle.decoder.specs.Inner.SlotsBy.{wordBy, countBy}
+use Rattle.decoder.specs.Decoded.{Decoded}
 use Rattle.decoder.proofs.SlotLaws.{words-are, counts-are}
-use Rattle.decoder.proofs.PromiseLaws.{past-causes, decode-done}
+use Rattle.decoder.proofs.DecodePromiseLaws.{past-causes, decode-done}
 
 -- causes 1 to 9 have passed
 pub record Past (n k : ℕ) (rows : List ℕ) (reading : Reading) (words out counts work : List ℕ) : Type 0 where

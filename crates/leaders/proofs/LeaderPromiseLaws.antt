@@ -7,14 +7,13 @@ use lib.ListN.{length, getD, drop, List·getD-append}
 use borrow.Author.Tests.{le-leb, lt-leb}
 use Rattle.coding.specs.Lists.{zeros}
 use Rattle.coding.specs.Leader.{leaderOf}
-use Rattle.coding.proofs.CountLaws.{getD-tabulate}
+use Rattle.coding.proofs.ListLaws.{getD-tabulate}
 use Rattle.coding.proofs.MachineLaws.{shl-one}
 use Rattle.words.specs.Limits.{maxChecks}
 use Rattle.words.specs.declared.answer.Refusal.{Refusal}
 use Rattle.words.specs.declared.answer.Refusal.the-variants.{ShortWork}
 use Rattle.words.specs.declared.answer.Answer.the-variants.{Done, Refused}
-use Rattle.words.proofs.ShapeLaws.{refused-done}
-use Rattle.words.proofs.ListLaws.{kept, filled}
+use Rattle.words.proofs.AnswerLaws.{refused-done, kept, filled}
 use Rattle.words.specs.Accepted.{matrixAnswer, Accepted}
 use Rattle.words.proofs.AcceptedLaws.{in-accepted}
 use Rattle.parity.specs.ParityChecks.{ParityChecksOf}

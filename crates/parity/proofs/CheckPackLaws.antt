@@ -7,9 +7,9 @@ use Prim.Native.Nat.{ℕ, _+_, _≤_, _<_}
 use lib.ListN.{length, getD, take, drop, set, length-map, drop-of-length-le}
 use lib.Seq.{length-take-le, getD-take}
 use Rattle.coding.specs.Lists.{padded}
-use Rattle.coding.specs.Reduced.{freesFrom}
+use Rattle.coding.specs.Reduce.{freesFrom}
 use Rattle.coding.specs.Check.{check}
-use Rattle.coding.proofs.ListLaws.{Packed, packed-room, packed-push, packed-end}
+use Rattle.coding.proofs.LoopLaws.{Packed, packed-room, packed-push, packed-end}
 use Rattle.coding.proofs.CompactLaws.{frees-free, frees-pivot}
 use Rattle.words.specs.Limits.{maxChecks}
 

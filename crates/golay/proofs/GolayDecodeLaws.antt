@@ -13,14 +13,14 @@ use lib.Count.{ones, onesIn}
 use Rattle.coding.specs.Word.{_⊕_, weight, distance}
 use Rattle.coding.specs.Matrix.{encode, Codeword, IsMessage, messageOf}
 use Rattle.coding.specs.Radius.{RadiusRules}
-use Rattle.coding.specs.Systematic.{systematicSyndrome}
+use Rattle.coding.specs.Inner.SystematicSyndrome.{systematicSyndrome}
 use Rattle.coding.proofs.WeightLaws.{weight-zero}
-use Rattle.coding.proofs.DecodeLaws.{codeword-lt}
+use Rattle.coding.proofs.LeaderLaws.{codeword-lt}
 use Rattle.coding.proofs.SystematicLaws.{systematic-syndrome, systematic-syndrome-xor, systematic-message, systematic-codeword}
 use Rattle.coding.proofs.SearchLaws.{codeword-test, codeword-fails}
 use Rattle.words.specs.declared.answer.Refusal.the-variants.{WordOutside, NoCodeword}
 use Rattle.words.specs.declared.answer.Answer.the-variants.{Done, Refused}
-use Rattle.words.proofs.ShapeLaws.{refused-done}
+use Rattle.words.proofs.AnswerLaws.{refused-done}
 use Rattle.words.proofs.CodeLaws.{one-is, back-is}
 use Rattle.outcomes.specs.Outcome.{outcomeOf, wordIn, countIn}
 use Rattle.outcomes.specs.declared.outcome.Reading.the-variants.{Within}
@@ -28,11 +28,11 @@ use Rattle.outcomes.specs.declared.outcome.Outcome.the-variants.{Clean}
 use Rattle.outcomes.proofs.DemandLaws.{outcome-found, outcome-none, radius-rule, clean-rule}
 use Rattle.golay_code.specs.Golay.{golayChecks, golayRows}
 use Rattle.golay_code.proofs.GolayLaws.{golay-size, golay-inside, golay-accepted, golay-dmin, golay-distance}
-use Rattle.golay.specs.Steps.{Pattern, noPattern, ErrorPattern}
+use Rattle.golay.specs.Inner.Steps.{Pattern, noPattern, ErrorPattern}
 use Rattle.golay.specs.Encoded.{Encoded}
 use Rattle.golay.specs.Decoded.{golayOutcome, Decoded}
 use Rattle.golay.specs.MessageRead.{MessageRead}
-use Rattle.golay.proofs.StepLaws.{sum-lt, check-pattern, error-found}
+use Rattle.golay.proofs.PatternLaws.{sum-lt, check-pattern, error-found}
 
 no-pattern-weight : weight noPattern ≡ 4
 unfolding ones onesIn

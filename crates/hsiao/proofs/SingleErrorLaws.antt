@@ -15,7 +15,7 @@ use Rattle.hsiao.specs.Table.{columns}
 use Rattle.hsiao.specs.Outcome.{withData, outcomeAt}
 use Rattle.hsiao.specs.declared.word.Word.{Word}
 use Rattle.hsiao.specs.declared.outcomes.Outcome.the-variants.{Mended, Far}
-use Rattle.hsiao.proofs.TableLaws.{columns-length}
+use Rattle.hsiao.proofs.HsiaoTableLaws.{columns-length}
 
 -- a test of every number below m
 abbrev below : (ℕ → Bool) → ℕ → Bool

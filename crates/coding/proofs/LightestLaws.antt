@@ -1,0 +1,82 @@
+-- Laws of the search for the lightest: it finds one where there is any, and there is one at most; and a word plus its leader is a
+-- nearest codeword. Assumes nothing.
+use mathlib.Core.Path.{_≡_, refl, sym, ap, _∙_}
+use mathlib.Core.Logic.{⊎-elim}
+use mathlib.Core.Option.{Option, none, some}
+use mathlib.Core.Bool.{Bool, true, false, cond}
+use Prim.Native.Nat.{ℕ, zero, suc, _^_, _≤_, _<_}
+use native.Mathlib.Nat.{le-refl, eq-or-lt-of-le, le-of-suc-le-suc, le-antisymm}
+use native.Mathlib.Omega.{arith}
+use lib.Dec.{T, ltb, ltb→lt, nltb→le, eqb→eq, eqb-refl}
+use lib.Bits.{xor-lt, xor-self, xor-zero-r}
+use Rattle.coding.specs.Word.{_⊕_, weight, distance}
+use Rattle.coding.specs.Leader.{merge, lightestBelow, having}
+use Rattle.coding.proofs.WordLaws.{xor-cancel}
+
+-- what holds of each number below m, and of m
+last : (Q : ℕ → Type 0) {m : ℕ} → ((v : ℕ) → v < m → Q v) → Q m → (v : ℕ) → v < suc m → Q v
+last Q f q v h = ⊎-elim (λ e. rw e q) (λ l. f v l) (eq-or-lt-of-le (le-of-suc-le-suc h))
+
+pub record IsLightest (p : ℕ → Bool) (m b : ℕ) : Type 0 where
+  pub passes : T (p b)
+  pub below : b < m
+  pub light : (v : ℕ) → v < m → T (p v) → weight b ≤ weight v
+  pub first : (v : ℕ) → v < m → T (p v) → weight v ≡ weight b → b ≤ v
+
+abbrev pub Found : (ℕ → Bool) → ℕ → Option ℕ → Type 0
+Found p m none = (v : ℕ) → v < m → T (p v) → ⊥
+Found p m (some b) = IsLightest p m b
+
+pub found : (p : ℕ → Bool) (m : ℕ) → Found p m (lightestBelow p m)
+found p zero = λ v h. absurd (omega arith)
+found p (suc m) = go (p m) refl (lightestBelow p m) (found p m)
+  where
+    go : (t : Bool) → p m ≡ t → (o : Option ℕ) → Found p m o → Found p (suc m) (merge t m o)
+    go false e none f = last (λ v. T (p v) → ⊥) f (λ t. rw e at t)
+    go false e (some b) f = record {
+      passes = f .passes;
+      below = omega arith;
+      light = last (λ v. T (p v) → weight b ≤ weight v) (f .light) (λ t. absurd (rw e at t));
+      first = last (λ v. T (p v) → weight v ≡ weight b → b ≤ v) (f .first) (λ t. absurd (rw e at t));
+    }
+    go true e none f = record {
+      passes = rw e tt;
+      below = le-refl (suc m);
+      light = last (λ v. T (p v) → weight m ≤ weight v) (λ v h t. absurd (f v h t)) (λ t. le-refl (weight m));
+      first = last (λ v. T (p v) → weight v ≡ weight m → m ≤ v) (λ v h t. absurd (f v h t)) (λ t q. le-refl m);
+    }
+    go true e (some b) f = choose (ltb (weight m) (weight b)) refl
+      where
+        choose : (c : Bool) → ltb (weight m) (weight b) ≡ c → IsLightest p (suc m) (cond c m b)
+        choose true q = record {
+          passes = rw e tt;
+          below = le-refl (suc m);
+          light = last (λ v. T (p v) → weight m ≤ weight v) (λ v h t. omega (arith, f .light v h t, ltb→lt (weight m) (weight b) (rw q tt))) (λ t. le-refl (weight m));
+          first = last (λ v. T (p v) → weight v ≡ weight m → m ≤ v)
+              (λ v h t k. absurd (omega (arith, f .light v h t, ltb→lt (weight m) (weight b) (rw q tt)))) (λ t k. le-refl m);
+        }
+        choose false q = record {
+          passes = f .passes;
+          below = omega arith;
+          light = last (λ v. T (p v) → weight b ≤ weight v) (f .light) (λ t. nltb→le (weight m) (weight b) (rw q tt));
+          first = last (λ v. T (p v) → weight v ≡ weight b → b ≤ v) (f .first) (λ t k. omega arith);
+        }
+
+-- there is one at most
+pub lightest-one : (p : ℕ → Bool) (m a b : ℕ) → IsLightest p m a → IsLightest p m b → a ≡ b
+lightest-one p m a b f g =
+    let e : weight a ≡ weight b = le-antisymm (f .light b (g .below) (g .passes)) (g .light a (f .below) (f .passes)) in
+    le-antisymm (f .first b (g .below) (g .passes) (sym e)) (g .first a (f .below) (f .passes) e)
+
+-- ---- the nearest codeword
+
+module _ (n : ℕ) (syn : ℕ → ℕ) (lin : (a b : ℕ) → syn (a ⊕ b) ≡ syn a ⊕ syn b) (C : ℕ → Type 0)
+    (zero-is : (w : ℕ) → w < 2 ^ n → syn w ≡ 0 → C w) (is-zero : (w : ℕ) → C w → (w < 2 ^ n) × (syn w ≡ 0)) where
+  pub nearest : (w l : ℕ) → w < 2 ^ n → IsLightest (having syn (syn w)) (2 ^ n) l
+      → C (w ⊕ l) × (distance w (w ⊕ l) ≡ weight l) × ((c : ℕ) → C c → distance w (w ⊕ l) ≤ distance w c)
+  nearest w l hw f = (
+    zero-is (w ⊕ l) (xor-lt n w l hw (f .below)) (lin w l ∙ ap (λ (x : ℕ). syn w ⊕ x) (eqb→eq (syn l) (syn w) (f .passes)) ∙ xor-self (syn w)),
+    ap weight (xor-cancel w l),
+    λ c cc. rw (xor-cancel w l) (f .light (w ⊕ c) (xor-lt n w c hw (is-zero c cc .0))
+        (rw (lin w c, is-zero c cc .1, xor-zero-r (syn w)) (eqb-refl (syn w)))),
+  )

@@ -1,0 +1,91 @@
+-- Laws of loops over lists: a list overwritten from the front, and one to which entries are added in front of zeros. Assumes nothing.
+use mathlib.Core.Path.{_≡_, refl, sym, ap, ap₂, _∙_}
+use mathlib.Core.List.{List, [], _∷_, _++_, append-assoc, append-nil}
+use Prim.Native.Nat.{ℕ, zero, suc, _+_, _-_, _≤_, _<_}
+use native.Mathlib.Nat.{le-of-suc-le-suc, zero-add, sub-zero, le-refl}
+use native.Mathlib.Numerals.{add-one}
+use native.Mathlib.Omega.{arith}
+use lib.ListN.{length, getD, take, drop, set, length-set, length-replicate, take-append-drop, List·getD-eq-default}
+use lib.Seq.{take-length, take-nil, drop-nil, take-suc-set, drop-set-lt, drop-cons}
+use Rattle.coding.specs.Lists.{zeros, padded}
+
+-- ---- a list overwritten from the front: the first i entries are those of new, the others are as they were
+
+abbrev pub over : List ℕ → List ℕ → ℕ → List ℕ
+over new old i = take i new ++ drop i old
+
+over-set-suc : (new old : List ℕ) (i : ℕ) → i < length new → i < length old → set (over new old i) i (getD new i 0) ≡ over new old (suc i)
+over-set-suc [] old i h k = absurd (omega arith)
+over-set-suc (x ∷ new) [] i h k = absurd (omega arith)
+over-set-suc (x ∷ new) (y ∷ old) zero h k = refl
+over-set-suc (x ∷ new) (y ∷ old) (suc i) h k = ap (λ (l : List ℕ). x ∷ l) (over-set-suc new old i (le-of-suc-le-suc h) (le-of-suc-le-suc k))
+
+pub over-set : (new old : List ℕ) (i v : ℕ) → i < length new → i < length old → v ≡ getD new i 0 → set (over new old i) i v ≡ over new old (i + 1)
+over-set new old i v h k e = rw (add-one, e) (over-set-suc new old i h k)
+
+-- the entry that is next is still the old one
+pub over-next : (new old : List ℕ) (i : ℕ) → i ≤ length new → getD (over new old i) i 0 ≡ getD old i 0
+over-next new old zero h = refl
+over-next [] old (suc i) h = absurd (omega arith)
+over-next (x ∷ new) [] (suc i) h =
+    ap (λ (l : List ℕ). getD (take i new ++ l) i 0) (sym (drop-nil i)) ∙ over-next new [] i (le-of-suc-le-suc h)
+    ∙ List·getD-eq-default [] 0 {n = i} (omega arith)
+over-next (x ∷ new) (y ∷ old) (suc i) h = over-next new old i (le-of-suc-le-suc h)
+
+pub over-all : (new old : List ℕ) (i : ℕ) → i ≡ length new → over new old i ≡ new ++ drop (length new) old
+over-all new old i e = rw (e, take-length)
+
+-- a whole list of the same length is replaced
+pub over-whole : (new old : List ℕ) (i : ℕ) → length new ≡ length old → length old ≤ i → over new old i ≡ new
+over-whole [] [] i e h = ap₂ _++_ (take-nil i) (drop-nil i)
+over-whole [] (y ∷ old) i e h = absurd (omega arith)
+over-whole (x ∷ new) [] i e h = absurd (omega arith)
+over-whole (x ∷ new) (y ∷ old) zero e h = absurd (omega arith)
+over-whole (x ∷ new) (y ∷ old) (suc i) e h = ap (λ (l : List ℕ). x ∷ l) (over-whole new old i (omega arith) (omega arith))
+
+suc-less : (k : ℕ) → k ≡ suc k - 1
+suc-less k = omega arith
+
+-- ---- entries added one after the other in front of zeros: j are there, and those of left are still to come
+
+pub record Packed (size : ℕ) (out : List ℕ) (j : ℕ) (left all : List ℕ) : Type 0 where
+  pub whole : take j out ++ left ≡ all
+  pub rest : drop j out ≡ zeros (size - j)
+  pub long : length out ≡ size
+  pub count : j + length left ≡ length all
+
+pub packed-start : (size : ℕ) (all : List ℕ) → Packed size (zeros size) 0 all all
+packed-start size all = record { whole = refl; rest = ap zeros (sym (sub-zero size)); long = length-replicate size 0; count = zero-add (length all) }
+
+module _ (size : ℕ) (out : List ℕ) (j : ℕ) where
+  pub packed-room : (v : ℕ) (left all : List ℕ) → Packed size out j (v ∷ left) all → length all ≤ size → j < size
+  packed-room v left all P h = omega (arith, P .count)
+
+  pub packed-push : (v : ℕ) (left all : List ℕ) → Packed size out j (v ∷ left) all → length all ≤ size → Packed size (set out j v) (j + 1) left all
+  packed-push v left all P h =
+      let room : j < length out = omega (arith, P .count, P .long) in
+      let more : drop (suc j) out ≡ zeros (size - suc j) = go room in
+      record {
+        whole = rw (add-one, take-suc-set out j v room, append-assoc) (P .whole);
+        rest = rw (add-one, drop-set-lt (suc j) out j v (le-refl (suc j))) more;
+        long = length-set out j v ∙ P .long;
+        count = omega (arith, P .count);
+      }
+    where
+      zeros-drop : (k : ℕ) → drop 1 (zeros k) ≡ zeros (k - 1)
+      zeros-drop zero = refl
+      zeros-drop (suc k) = ap zeros (suc-less k)
+
+      tail : (l : List ℕ) (x k : ℕ) → x ∷ l ≡ zeros k → l ≡ zeros (k - 1)
+      tail l x k e = ap (drop 1) e ∙ zeros-drop k
+
+      go : j < length out → drop (suc j) out ≡ zeros (size - suc j)
+      go room =
+          let e : size - j - 1 ≡ size - suc j = omega arith in
+          tail (drop (suc j) out) (getD out j 0) (size - j) (sym (drop-cons out j 0 room) ∙ P .rest) ∙ ap zeros e
+
+  pub packed-end : (all : List ℕ) → Packed size out j [] all → j ≤ size → out ≡ padded size all
+  packed-end all P h =
+      let e : j ≡ length all = omega (arith, P .count) in
+      sym (take-append-drop j out)
+      ∙ ap₂ _++_ (sym (append-nil (take j out)) ∙ P .whole) (P .rest ∙ ap (λ (k : ℕ). zeros (size - k)) e)

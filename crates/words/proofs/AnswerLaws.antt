@@ -1,0 +1,44 @@
+-- Laws of answers: causes in order, and what an answer leaves in a lent list. Assumes nothing.
+use mathlib.Core.Path.{_≡_, refl, ap, sym, _∙_}
+use mathlib.Core.List.{List, _++_, map}
+use mathlib.Core.Bool.{Bool, true, false}
+use Prim.Native.Nat.{ℕ, _+_}
+use native.Mathlib.Omega.{arith}
+use lib.ListN.{length, drop, length-map}
+use Rattle.words.specs.Refusal.{unless, andThen, onDone}
+use Rattle.words.specs.declared.answer.Refusal.{Refusal}
+use Rattle.words.specs.declared.answer.Answer.{Answer}
+use Rattle.words.specs.declared.answer.Answer.the-variants.{Done, Refused}
+
+-- ---- causes in order
+
+-- a refusal is no success
+pub refused-done : {c : Refusal} {A : Type 0} → Refused c ≡ Done → A
+refused-done e = let z : _≡_ {A = ℕ} 0 1 = cc in absurd (omega arith)
+
+-- a cause that passes: its test holds, and the later causes decide
+pub unless-done : (b : Bool) (c : Refusal) (later : Answer) → unless b c later ≡ Done → (b ≡ true) × (later ≡ Done)
+unless-done true c later e = (refl, e)
+unless-done false c later e = refused-done e
+
+pub andThen-done : (a later : Answer) → andThen a later ≡ Done → (a ≡ Done) × (later ≡ Done)
+andThen-done Done later e = (refl, e)
+andThen-done (Refused c) later e = refused-done e
+
+-- the first group refuses, or passes and the next decides
+pub stays : (a later : Answer) (c : Refusal) → a ≡ Refused c → a ≡ andThen a later
+stays a later c e = rw e refl
+
+pub goes : (a later : Answer) → a ≡ Done → later ≡ andThen a later
+goes a later e = rw e refl
+
+-- a refusal keeps the list
+pub kept : (r : Answer) (c : Refusal) → r ≡ Refused c → (new old : List ℕ) → old ≡ onDone r new old
+kept r c e new old = rw e refl
+
+-- a success writes the new entries and keeps the later slots
+pub filled : (new old after : List ℕ) (m : ℕ) → length new ≡ m → after ≡ new ++ drop m old → after ≡ onDone Done new old
+filled new old after m l e = e ∙ ap (λ (k : ℕ). new ++ drop k old) (sym l)
+
+pub written : (f : ℕ → ℕ) (ws old after : List ℕ) → after ≡ map f ws ++ drop (length ws) old → after ≡ onDone Done (map f ws) old
+written f ws old after e = filled (map f ws) old after (length ws) (length-map ws f) e
