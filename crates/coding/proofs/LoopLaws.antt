@@ -1,13 +1,39 @@
--- Laws of loops over lists: a list overwritten from the front, and one to which entries are added in front of zeros. Assumes nothing.
+-- Invariants that loops share, each with its start, its step and its end: a search from the front, a list overwritten from the front, and
+-- entries added in front of zeros. Assumes nothing.
 use mathlib.Core.Path.{_≡_, refl, sym, ap, ap₂, _∙_}
-use mathlib.Core.List.{List, [], _∷_, _++_, append-assoc, append-nil}
+use mathlib.Core.List.{List, [], _∷_, _++_, map, append-assoc, append-nil}
+use mathlib.Core.Bool.{Bool, true, false}
 use Prim.Native.Nat.{ℕ, zero, suc, _+_, _-_, _≤_, _<_}
 use native.Mathlib.Nat.{le-of-suc-le-suc, zero-add, sub-zero, le-refl}
 use native.Mathlib.Numerals.{add-one}
 use native.Mathlib.Omega.{arith}
-use lib.ListN.{length, getD, take, drop, set, length-set, length-replicate, take-append-drop, List·getD-eq-default}
+use lib.ListN.{length, getD, take, drop, set, length-map, length-set, length-replicate, take-append-drop, List·getD-eq-default}
 use lib.Seq.{take-length, take-nil, drop-nil, take-suc-set, drop-set-lt, drop-cons}
-use Rattle.coding.specs.Lists.{zeros, padded}
+use borrow.Author.Count.{below-more}
+use Rattle.coding.specs.Lists.{first, zeros, padded, tabulate}
+use Rattle.coding.proofs.ListLaws.{getD-map, length-tabulate, getD-tabulate}
+use Rattle.coding.proofs.SearchLaws.{first-is}
+
+-- ---- a search from the front: no index before i passes the test
+
+pub record Searched (p : ℕ → Bool) (m i : ℕ) : Type 0 where
+  pub within : i ≤ m
+  pub none : (j : ℕ) → j < i → p j ≡ false
+
+pub search-start : (p : ℕ → Bool) (m : ℕ) → Searched p m 0
+search-start p m = record { within = omega arith; none = λ j h. absurd (omega arith) }
+
+module _ {p : ℕ → Bool} {m i : ℕ} (S : Searched p m i) where
+  pub search-next : i < m → p i ≡ false → Searched p m (i + 1)
+  search-next h e = record { within = omega arith; none = below-more _ _ (S .none) e }
+
+  -- i passes
+  pub search-hit : i < m → p i ≡ true → i ≡ first p m
+  search-hit h e = sym (first-is p m i (S .within) (S .none) (λ _. e))
+
+  -- none is left
+  pub search-end : m ≤ i → i ≡ first p m
+  search-end h = sym (first-is p m i (S .within) (S .none) (λ l. absurd (omega arith)))
 
 -- ---- a list overwritten from the front: the first i entries are those of new, the others are as they were
 
@@ -42,6 +68,54 @@ over-whole [] (y ∷ old) i e h = absurd (omega arith)
 over-whole (x ∷ new) [] i e h = absurd (omega arith)
 over-whole (x ∷ new) (y ∷ old) zero e h = absurd (omega arith)
 over-whole (x ∷ new) (y ∷ old) (suc i) e h = ap (λ (l : List ℕ). x ∷ l) (over-whole new old i (omega arith) (omega arith))
+
+pub record Over (new old : List ℕ) (i : ℕ) (l : List ℕ) : Type 0 where
+  pub long : length l ≡ length old
+  pub list : l ≡ over new old i
+
+pub over-start : (new old : List ℕ) → Over new old 0 old
+over-start new old = record { long = refl; list = refl }
+
+module _ {new old : List ℕ} {i : ℕ} {l : List ℕ} (O : Over new old i l) where
+  pub over-step : (v : ℕ) → i < length new → i < length old → v ≡ getD new i 0 → Over new old (i + 1) (set l i v)
+  over-step v h k e = record {
+    long = length-set l i v ∙ O .long;
+    list = ap (λ (x : List ℕ). set x i v) (O .list) ∙ over-set new old i v h k e;
+  }
+
+  -- all of new is there
+  pub over-end : i ≡ length new → l ≡ new ++ drop (length new) old
+  over-end e = O .list ∙ rw (e, take-length)
+
+  -- and there is nothing after it
+  pub over-full : length new ≡ length old → length old ≤ i → l ≡ new
+  over-full e h = O .list ∙ over-whole new old i e h
+
+-- the new entries are the values of a function at the entries of another list
+module _ (f : ℕ → ℕ) (ws : List ℕ) {old : List ℕ} {i : ℕ} {l : List ℕ} (O : Over (map f ws) old i l) where
+  pub over-map-step : (v : ℕ) → i < length ws → i < length old → v ≡ f (getD ws i 0) → Over (map f ws) old (i + 1) (set l i v)
+  over-map-step v h k e = over-step O v (rw (length-map ws f) h) k (e ∙ sym (getD-map f ws i h))
+
+  pub over-map-end : i ≤ length ws → length ws ≤ i → l ≡ map f ws ++ drop (length ws) old
+  over-map-end h k =
+      let long = length-map ws f in
+      rw (← long) (over-end O (omega (arith, long)))
+
+  pub over-map-full : length ws ≡ length old → length old ≤ i → l ≡ map f ws
+  over-map-full e h = over-full O (length-map ws f ∙ e) h
+
+-- or at the numbers below m
+module _ (f : ℕ → ℕ) (m : ℕ) {old : List ℕ} {i : ℕ} {l : List ℕ} (O : Over (tabulate f m) old i l) where
+  pub over-tabulate-step : (v : ℕ) → i < m → i < length old → v ≡ f i → Over (tabulate f m) old (i + 1) (set l i v)
+  over-tabulate-step v h k e = over-step O v (rw (length-tabulate f m) h) k (e ∙ sym (getD-tabulate f m i h))
+
+  pub over-tabulate-end : i ≡ m → l ≡ tabulate f m ++ drop m old
+  over-tabulate-end e =
+      let long = length-tabulate f m in
+      over-end O (e ∙ sym long) ∙ ap (λ (x : ℕ). tabulate f m ++ drop x old) long
+
+  pub over-tabulate-full : m ≡ length old → length old ≤ i → l ≡ tabulate f m
+  over-tabulate-full e h = over-full O (length-tabulate f m ∙ e) h
 
 suc-less : (k : ℕ) → k ≡ suc k - 1
 suc-less k = omega arith
