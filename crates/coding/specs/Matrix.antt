@@ -48,6 +48,10 @@ Independent rows = (u : ℕ) → u < 2 ^ length rows → encode rows u ≡ 0 →
 abbrev pub Depends : List ℕ → ℕ → Type 0
 Depends rows i = Codeword (take i rows) (getD rows i 0)
 
+-- the same as a test
+abbrev pub dependsAt : List ℕ → ℕ → Bool
+dependsAt rows i = isCodeword (take i rows) (getD rows i 0)
+
 -- the first row that is a sum of earlier rows, or the number of rows where none is
 abbrev pub firstDependent : List ℕ → ℕ
-firstDependent rows = first (λ i. isCodeword (take i rows) (getD rows i 0)) (length rows)
+firstDependent rows = first (dependsAt rows) (length rows)

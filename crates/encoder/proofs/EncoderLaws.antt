@@ -30,12 +30,12 @@ use Rattle.words.specs.Accepted.{matrixAnswer, Accepted}
 use Rattle.words.proofs.AcceptedLaws.{accepted-in}
 use Rattle.words.proofs.CodeLaws.{one-is, back-is, codeword-syndrome}
 use Rattle.encoder.specs.Encoded.{encodeAnswer, Encoded}
-use Rattle.encoder.specs.MessagesRead.{firstOther, messageAnswer, MessagesRead}
+use Rattle.encoder.specs.MessagesRead.{other, messageAnswer, MessagesRead}
 
 module _ (n k : ℕ) (rows : List ℕ) (A : Accepted n k rows) where
   -- so the first word whose syndrome is not 0 is the first that is no codeword
   pub other-is : (words : List ℕ) → Inside n words
-      → first (λ i. not (eqb (syndrome (padded maxChecks (checks n rows)) (getD words i 0)) 0)) (length words) ≡ firstOther rows words
+      → first (λ i. not (eqb (syndrome (padded maxChecks (checks n rows)) (getD words i 0)) 0)) (length words) ≡ first (other rows words) (length words)
   other-is words f = first-same _ _ (length words) (λ i h. ap not (same (getD words i 0) (f i h)))
     where
       same : (w : ℕ) → w < 2 ^ n → eqb (syndrome (padded maxChecks (checks n rows)) w) 0 ≡ isCodeword rows w
@@ -46,14 +46,14 @@ module _ (n k : ℕ) (rows : List ℕ) (A : Accepted n k rows) where
           go false e = ne-eqb _ 0 (λ z. true-false (codeword-test rows w .1 (codeword-syndrome n k rows A w h .0 z)) e)
 
   -- the messages beside the reduced rows read each codeword back
-  pub messages-are : (M : List ℕ) → Traced rows M (reduce 32 rows) → (words : List ℕ) → firstOther rows words ≡ length words
+  pub messages-are : (M : List ℕ) → Traced rows M (reduce 32 rows) → (words : List ℕ) → first (other rows words) (length words) ≡ length words
       → map (encode M) words ≡ map (messageOf rows) words
   messages-are M t words none = map-same (encode M) (messageOf rows) words (λ i h. sym (same (getD words i 0) (is-codeword i h)))
     where
       is-codeword : (i : ℕ) → i < length words → Codeword rows (getD words i 0)
       is-codeword i h =
           codeword-test rows (getD words i 0) .0
-          (not-false _ (first-before (λ i. not (isCodeword rows (getD words i 0))) (length words) i (rw none h)))
+          (not-false _ (first-before (other rows words) (length words) i (rw none h)))
 
       same : (w : ℕ) → Codeword rows w → messageOf rows w ≡ encode M w
       same w c =
@@ -69,22 +69,13 @@ module _ (n k : ℕ) (rows words before : List ℕ) (r : Answer) (after : List �
       → MessagesRead n k rows words before r after
   messages-read a s = record { answer = a; slots = s; one = λ A w c. one-is n k rows A w c; back = λ A u h. back-is n k rows A u h }
 
--- cause 10, from the first word that is no codeword
-module _ (rows words : List ℕ) (i : ℕ) (is : i ≡ firstOther rows words) where
-  pub other-refuses : (i ≡ length words → ⊥)
-      → Refused (NoCodeword i) ≡ unless (eqb (firstOther rows words) (length words)) (NoCodeword (firstOther rows words)) Done
-  other-refuses ne = simp (← is, ne-eqb i (length words) ne)
-
-  pub other-passes : i ≡ length words → Done ≡ unless (eqb (firstOther rows words) (length words)) (NoCodeword (firstOther rows words)) Done
-  other-passes e = simp (← is, eq-eqb i (length words) e)
-
 -- Message past causes 1 to 8: the last cause decides, and the word found by its syndrome is the first that is no codeword
 module _ (n k : ℕ) (rows words : List ℕ) (slots : ℕ) (m : matrixAnswer n k rows ≡ Done) (l : listAnswer words n slots ≡ Done) where
   pub past : (last : Answer) → last ≡ andThen (matrixAnswer n k rows) (andThen (listAnswer words n slots) last)
   past last = goes (listAnswer words n slots) last l ∙ goes (matrixAnswer n k rows) (andThen (listAnswer words n slots) last) m
 
   pub other-found : (cs : List ℕ) (bad : ℕ) → cs ≡ padded maxChecks (checks n rows)
-      → bad ≡ first (λ i. not (eqb (syndrome cs (getD words i 0)) 0)) (length words) → bad ≡ firstOther rows words
+      → bad ≡ first (λ i. not (eqb (syndrome cs (getD words i 0)) 0)) (length words) → bad ≡ first (other rows words) (length words)
   other-found cs bad e f =
       f ∙ ap (λ (h : List ℕ). first (λ i. not (eqb (syndrome h (getD words i 0)) 0)) (length words)) e
       ∙ other-is n k rows (accepted-in n k rows m) words (list-in words n slots l .inside)

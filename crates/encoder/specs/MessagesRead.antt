@@ -1,28 +1,26 @@
 -- 01, Message: its answer and what the lent list holds at the end.
 use mathlib.Core.Path.{_≡_}
 use mathlib.Core.List.{List, map}
-use mathlib.Core.Bool.{not}
+use mathlib.Core.Bool.{Bool, not}
 use Prim.Native.Nat.{ℕ, _^_, _<_}
-use lib.Dec.{eqb}
 use lib.ListN.{length, getD}
-use Rattle.coding.specs.Lists.{first}
 use Rattle.coding.specs.Matrix.{encode, Codeword, IsMessage, messageOf, isCodeword}
-use Rattle.words.specs.Refusal.{unless, andThen, onDone}
+use Rattle.words.specs.Refusal.{refuseFirst, andThen, onDone}
 use Rattle.words.specs.Accepted.{matrixAnswer, Accepted}
 use Rattle.words.specs.Lists.{listAnswer}
 use Rattle.words.specs.declared.answer.Refusal.the-variants.{NoCodeword}
 use Rattle.words.specs.declared.answer.Answer.{Answer}
 use Rattle.words.specs.declared.answer.Answer.the-variants.{Done}
 
--- the first word that is no codeword, or the number of words where there is none
-abbrev pub firstOther : List ℕ → List ℕ → ℕ
-firstOther rows words = first (λ i. not (isCodeword rows (getD words i 0))) (length words)
+-- word i is no codeword
+abbrev pub other : List ℕ → List ℕ → ℕ → Bool
+other rows words i = not (isCodeword rows (getD words i 0))
 
 -- causes 1 to 4, 6 to 8, and 10
 abbrev pub messageAnswer : ℕ → ℕ → List ℕ → List ℕ → ℕ → Answer
 messageAnswer n k rows words slots =
     andThen (matrixAnswer n k rows)
-    (andThen (listAnswer words n slots) (unless (eqb (firstOther rows words) (length words)) (NoCodeword (firstOther rows words)) Done))
+    (andThen (listAnswer words n slots) (refuseFirst (other rows words) (length words) NoCodeword Done))
 
 -- slot i holds the message of codeword i, every later slot and on a refusal every slot is as it was; for an accepted matrix every
 -- codeword has exactly one message, and the message that was encoded comes back

@@ -1,2 +1,3 @@
 mod CheckPackLaws
 pub mod ParityLaws
+pub mod CodeOfLaws

@@ -1,5 +1,5 @@
 -- Laws of the causes 1 to 4: they pass a matrix exactly when it is accepted. Assumes nothing.
-use mathlib.Core.Path.{_≡_, refl}
+use mathlib.Core.Path.{_≡_, refl, sym}
 use mathlib.Core.List.{List}
 use mathlib.Core.Bool.{Bool, true, false}
 use Prim.Native.Nat.{ℕ, _<_}
@@ -7,14 +7,14 @@ use native.Mathlib.Nat.{le-refl}
 use native.Mathlib.Omega.{arith}
 use lib.Dec.{eqb}
 use lib.ListN.{length, getD, take}
-use borrow.Author.Tests.{eqb-true, eq-eqb}
-use Rattle.coding.specs.Matrix.{Codeword, Independent, isCodeword, firstDependent}
+use borrow.Author.Tests.{eqb-false}
+use Rattle.coding.specs.Matrix.{Independent, Depends, dependsAt, firstDependent}
 use Rattle.coding.proofs.SearchLaws.{first-le}
 use Rattle.coding.proofs.DependLaws.{dependent-is, dependent-there, dependent-before, dependent-independent, none-independent, independent-none}
 use Rattle.words.specs.Limits.{inRange}
 use Rattle.words.specs.Refusal.{unless, andThen}
 use Rattle.words.specs.Shape.{firstOutside, shapeAnswer}
-use Rattle.words.proofs.AnswerLaws.{unless-done, andThen-done}
+use Rattle.words.proofs.AnswerLaws.{first-refused, first-passes, first-done, andThen-done}
 use Rattle.words.proofs.ShapeLaws.{shape-in, in-shape}
 use Rattle.words.specs.Accepted.{matrixAnswer, Accepted}
 use Rattle.words.specs.declared.answer.Refusal.{Refusal}
@@ -26,11 +26,11 @@ use Rattle.words.specs.declared.answer.Answer.the-variants.{Done, Refuse
 module _ (n k : ℕ) (rows : List ℕ) (s : shapeAnswer n k rows ≡ Done) where
   pub ends-dependent : (firstDependent rows ≡ length rows → ⊥) → matrixAnswer n k rows ≡ Refused (Dependent (firstDependent rows))
   unfolding matrixAnswer
-  ends-dependent ne = simp (s, borrow.Author.Tests.ne-eqb (firstDependent rows) (length rows) ne)
+  ends-dependent ne = rw s (sym (first-refused (dependsAt rows) (length rows) Dependent Done (firstDependent rows) refl ne))
 
   pub ends-done : firstDependent rows ≡ length rows → matrixAnswer n k rows ≡ Done
   unfolding matrixAnswer
-  ends-done e = simp (s, eq-eqb (firstDependent rows) (length rows) e)
+  ends-done e = rw s (sym (first-passes (dependsAt rows) (length rows) Dependent Done (firstDependent rows) refl e))
 
 pub shape-refused : (n k : ℕ) (rows : List ℕ) (c : Refusal) → shapeAnswer n k rows ≡ Refused c → matrixAnswer n k rows ≡ Refused c
 unfolding matrixAnswer
@@ -41,8 +41,7 @@ unfolding matrixAnswer
 accepted-in n k rows e =
     let (e1, e2) = andThen-done (shapeAnswer n k rows) _ e in
     let s = shape-in n k rows e1 in
-    let d : firstDependent rows ≡ length rows
-    = eqb-true (firstDependent rows) (length rows) (unless-done (eqb (firstDependent rows) (length rows)) (Dependent (firstDependent rows)) Done e2 .0) in
+    let d = first-done (dependsAt rows) (length rows) Dependent Done e2 .0 in
     record {
       range = s .range;
       count = s .count;
@@ -57,23 +56,23 @@ in-accepted n k rows a =
 
 -- the row that cause 4 names is a sum of earlier rows, and those are independent
 pub found-in : (n k : ℕ) (rows : List ℕ) (i : ℕ) → matrixAnswer n k rows ≡ Refused (Dependent i)
-    → Codeword (take i rows) (getD rows i 0) × Independent (take i rows)
+    → Depends rows i × Independent (take i rows)
 unfolding matrixAnswer shapeAnswer
 found-in n k rows i e = shape (inRange n k) (eqb (length rows) k) (eqb (firstOutside n rows) (length rows)) e
   where
     there : (b : Bool) → eqb (firstDependent rows) (length rows) ≡ b → unless b (Dependent (firstDependent rows)) Done ≡ Refused (Dependent i)
-        → Codeword (take i rows) (getD rows i 0) × Independent (take i rows)
+        → Depends rows i × Independent (take i rows)
     there true q e = let z : _≡_ {A = ℕ} 0 1 = cc in absurd (omega arith)
     there false q e =
         let same : firstDependent rows ≡ i = cc in
         let less : firstDependent rows < length rows
-        = omega (arith, first-le (λ i. isCodeword (take i rows) (getD rows i 0)) (length rows), borrow.Author.Tests.eqb-false (firstDependent rows) (length rows) q) in
+        = omega (arith, first-le (dependsAt rows) (length rows), eqb-false (firstDependent rows) (length rows) q) in
         rw (← same) (dependent-there rows less, dependent-independent rows)
 
     shape : (a b c : Bool)
         → andThen (unless a OutOfRange (unless b RowCount (unless c (RowOutside (firstOutside n rows)) Done)))
         (unless (eqb (firstDependent rows) (length rows)) (Dependent (firstDependent rows)) Done)
-        ≡ Refused (Dependent i) → Codeword (take i rows) (getD rows i 0) × Independent (take i rows)
+        ≡ Refused (Dependent i) → Depends rows i × Independent (take i rows)
     shape true true true e = there (eqb (firstDependent rows) (length rows)) refl e
     shape true true false e = let z : _≡_ {A = ℕ} 0 1 = cc in absurd (omega arith)
     shape true false c e = let z : _≡_ {A = ℕ} 0 1 = cc in absurd (omega arith)

@@ -1,11 +1,15 @@
 -- Laws of answers: causes in order, and what an answer leaves in a lent list. Assumes nothing.
 use mathlib.Core.Path.{_≡_, refl, ap, sym, _∙_}
+use mathlib.Core.Logic.{_≢_}
 use mathlib.Core.List.{List, _++_, map}
 use mathlib.Core.Bool.{Bool, true, false}
 use Prim.Native.Nat.{ℕ, _+_}
 use native.Mathlib.Omega.{arith}
+use lib.Dec.{eqb}
 use lib.ListN.{length, drop, length-map}
-use Rattle.words.specs.Refusal.{unless, andThen, onDone}
+use borrow.Author.Tests.{eqb-true, eq-eqb, ne-eqb}
+use Rattle.coding.specs.Lists.{first}
+use Rattle.words.specs.Refusal.{unless, refuseFirst, andThen, onDone}
 use Rattle.words.specs.declared.answer.Refusal.{Refusal}
 use Rattle.words.specs.declared.answer.Answer.{Answer}
 use Rattle.words.specs.declared.answer.Answer.the-variants.{Done, Refused}
@@ -20,6 +24,19 @@ refused-done e = let z : _≡_ {A = ℕ} 0 1 = cc in absurd (omega arith)
 pub unless-done : (b : Bool) (c : Refusal) (later : Answer) → unless b c later ≡ Done → (b ≡ true) × (later ≡ Done)
 unless-done true c later e = (refl, e)
 unless-done false c later e = refused-done e
+
+-- the first that fails is refused, or none fails and the later causes decide
+module _ (fails : ℕ → Bool) (m : ℕ) (c : ℕ → Refusal) (later : Answer) where
+  pub first-refused : (i : ℕ) → i ≡ first fails m → i ≢ m → Refused (c i) ≡ refuseFirst fails m c later
+  first-refused i e ne = simp (← e, ne-eqb i m ne)
+
+  pub first-passes : (i : ℕ) → i ≡ first fails m → i ≡ m → later ≡ refuseFirst fails m c later
+  first-passes i e h = simp (← e, eq-eqb i m h)
+
+  pub first-done : refuseFirst fails m c later ≡ Done → (first fails m ≡ m) × (later ≡ Done)
+  first-done e =
+      let (a, b) = unless-done (eqb (first fails m) m) (c (first fails m)) later e in
+      (eqb-true (first fails m) m a, b)
 
 pub andThen-done : (a later : Answer) → andThen a later ≡ Done → (a ≡ Done) × (later ≡ Done)
 andThen-done Done later e = (refl, e)

@@ -11,8 +11,8 @@ use borrow.Author.Tests.{leb-true, le-leb, eqb-true, eq-eqb, lt-ltb, ltb-true, n
 use Rattle.coding.specs.Matrix.{Inside}
 use Rattle.coding.proofs.SearchLaws.{first-is, first-before}
 use Rattle.words.specs.Limits.{maxPlaces, maxRows, maxChecks, InRange, inRange}
-use Rattle.words.specs.Shape.{firstOutside, shapeAnswer}
-use Rattle.words.proofs.AnswerLaws.{unless-done}
+use Rattle.words.specs.Shape.{outside, firstOutside, shapeAnswer}
+use Rattle.words.proofs.AnswerLaws.{unless-done, first-done}
 use Rattle.words.specs.declared.answer.Refusal.the-variants.{OutOfRange, RowCount, RowOutside}
 use Rattle.words.specs.declared.answer.Answer.the-variants.{Done}
 
@@ -51,11 +51,11 @@ in-range n k r =
 pub outside-none : (n : ℕ) (words : List ℕ) → firstOutside n words ≡ length words → Inside n words
 outside-none n words e i h =
     ltb-true (getD words i 0) (2 ^ n)
-    (not-false _ (first-before (λ i. not (ltb (getD words i 0) (2 ^ n))) (length words) i (rw e h)))
+    (not-false _ (first-before (outside n words) (length words) i (rw e h)))
 
 pub inside-none : (n : ℕ) (words : List ℕ) → Inside n words → firstOutside n words ≡ length words
 inside-none n words f =
-    first-is (λ i. not (ltb (getD words i 0) (2 ^ n))) (length words) (length words) (le-refl (length words))
+    first-is (outside n words) (length words) (length words) (le-refl (length words))
     (λ j h. ap not (lt-ltb (getD words j 0) (2 ^ n) (f j h))) (λ h. absurd (omega (arith, h)))
 
 -- ---- causes 1 to 3
@@ -70,11 +70,11 @@ unfolding shapeAnswer
 shape-in n k rows e =
     let e1 = unless-done (inRange n k) OutOfRange _ e in
     let e2 = unless-done (eqb (length rows) k) RowCount _ (e1 .1) in
-    let e3 = unless-done (eqb (firstOutside n rows) (length rows)) (RowOutside (firstOutside n rows)) _ (e2 .1) in
+    let e3 = first-done (outside n rows) (length rows) RowOutside Done (e2 .1) in
     record {
       range = range-in n k (e1 .0);
       count = eqb-true (length rows) k (e2 .0);
-      inside = outside-none n rows (eqb-true (firstOutside n rows) (length rows) (e3 .0));
+      inside = outside-none n rows (e3 .0);
     }
 
 pub in-shape : (n k : ℕ) (rows : List ℕ) → Shaped n k rows → shapeAnswer n k rows ≡ Done

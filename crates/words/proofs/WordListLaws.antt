@@ -7,11 +7,11 @@ use lib.ListN.{length}
 use borrow.Author.Tests.{leb-true, eqb-true}
 use Rattle.coding.specs.Matrix.{Inside}
 use Rattle.words.specs.Limits.{maxWords}
-use Rattle.words.specs.Shape.{firstOutside}
+use Rattle.words.specs.Shape.{outside}
 use Rattle.words.specs.Lists.{listAnswer}
 use Rattle.words.specs.declared.answer.Refusal.the-variants.{TooManyWords, WordOutside, ShortOutput}
 use Rattle.words.specs.declared.answer.Answer.the-variants.{Done}
-use Rattle.words.proofs.AnswerLaws.{unless-done}
+use Rattle.words.proofs.AnswerLaws.{unless-done, first-done}
 use Rattle.words.proofs.ShapeLaws.{outside-none}
 
 -- what causes 6 to 8 leave known when they pass
@@ -24,10 +24,10 @@ pub list-in : (words : List ℕ) (places slots : ℕ) → listAnswer words place
 unfolding listAnswer
 list-in words places slots e =
     let e1 = unless-done (leb (length words) maxWords) TooManyWords _ e in
-    let e2 = unless-done (eqb (firstOutside places words) (length words)) (WordOutside (firstOutside places words)) _ (e1 .1) in
+    let e2 = first-done (outside places words) (length words) WordOutside _ (e1 .1) in
     let e3 = unless-done (leb (length words) slots) ShortOutput Done (e2 .1) in
     record {
       few = leb-true (length words) maxWords (e1 .0);
-      inside = outside-none places words (eqb-true (firstOutside places words) (length words) (e2 .0));
+      inside = outside-none places words (e2 .0);
       room = leb-true (length words) slots (e3 .0);
     }

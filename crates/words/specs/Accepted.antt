@@ -2,11 +2,10 @@
 use mathlib.Core.Path.{_≡_}
 use mathlib.Core.List.{List}
 use Prim.Native.Nat.{ℕ}
-use lib.Dec.{eqb}
 use lib.ListN.{length}
-use Rattle.coding.specs.Matrix.{Inside, Independent, firstDependent}
+use Rattle.coding.specs.Matrix.{Inside, Independent, dependsAt}
 use Rattle.words.specs.Limits.{InRange}
-use Rattle.words.specs.Refusal.{unless, andThen}
+use Rattle.words.specs.Refusal.{refuseFirst, andThen}
 use Rattle.words.specs.Shape.{shapeAnswer}
 use Rattle.words.specs.declared.answer.Refusal.the-variants.{Dependent}
 use Rattle.words.specs.declared.answer.Answer.{Answer}
@@ -16,7 +15,7 @@ use Rattle.words.specs.declared.answer.Answer.the-variants.{Done}
 unfoldable pub matrixAnswer : ℕ → ℕ → List ℕ → Answer
 matrixAnswer n k rows =
     andThen (shapeAnswer n k rows)
-    (unless (eqb (firstDependent rows) (length rows)) (Dependent (firstDependent rows)) Done)
+    (refuseFirst (dependsAt rows) (length rows) Dependent Done)
 
 -- what causes 1 to 4 ask of a matrix
 pub record Accepted (n k : ℕ) (rows : List ℕ) : Type 0 where

@@ -1,11 +1,11 @@
 -- Causes 6 to 8: the list of words of a call and the room for its results.
 use mathlib.Core.List.{List}
 use Prim.Native.Nat.{ℕ}
-use lib.Dec.{eqb, leb}
+use lib.Dec.{leb}
 use lib.ListN.{length}
 use Rattle.words.specs.Limits.{maxWords}
-use Rattle.words.specs.Refusal.{unless}
-use Rattle.words.specs.Shape.{firstOutside}
+use Rattle.words.specs.Refusal.{unless, refuseFirst}
+use Rattle.words.specs.Shape.{outside}
 use Rattle.words.specs.declared.answer.Refusal.the-variants.{TooManyWords, WordOutside, ShortOutput}
 use Rattle.words.specs.declared.answer.Answer.{Answer}
 use Rattle.words.specs.declared.answer.Answer.the-variants.{Done}
@@ -14,5 +14,5 @@ use Rattle.words.specs.declared.answer.Answer.the-variants.{Done}
 unfoldable pub listAnswer : List ℕ → ℕ → ℕ → Answer
 listAnswer words places slots =
     unless (leb (length words) maxWords) TooManyWords
-    (unless (eqb (firstOutside places words) (length words)) (WordOutside (firstOutside places words))
+    (refuseFirst (outside places words) (length words) WordOutside
     (unless (leb (length words) slots) ShortOutput Done))

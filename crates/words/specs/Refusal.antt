@@ -2,7 +2,9 @@
 use mathlib.Core.List.{List, _++_}
 use mathlib.Core.Bool.{Bool, true, false}
 use Prim.Native.Nat.{ℕ}
+use lib.Dec.{eqb}
 use lib.ListN.{length, drop}
+use Rattle.coding.specs.Lists.{first}
 use Rattle.words.specs.declared.answer.Refusal.{Refusal}
 use Rattle.words.specs.declared.answer.Refusal.the-variants.{OutOfRange, RowCount, RowOutside, Dependent, RadiusTooLarge, TooManyWords, WordOutside, ShortOutput, ShortWork, NoCodeword}
 use Rattle.words.specs.declared.answer.Answer.{Answer}
@@ -37,6 +39,10 @@ valueOf (NoCodeword i) = i
 abbrev pub unless : Bool → Refusal → Answer → Answer
 unless true c later = later
 unless false c later = Refused c
+
+-- the first index below m that fails is refused with it as the value beside the number; where none fails the later causes decide
+abbrev pub refuseFirst : (ℕ → Bool) → ℕ → (ℕ → Refusal) → Answer → Answer
+refuseFirst fails m c later = unless (eqb (first fails m) m) (c (first fails m)) later
 
 -- the causes of one group, then those of the next
 abbrev pub andThen : Answer → Answer → Answer

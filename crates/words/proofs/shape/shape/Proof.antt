@@ -1,10 +1,31 @@
 -- `words::shape::shape`: the causes in turn. Assumes nothing.
-use mathlib.Core.Path.{sym, _∙_}
+use mathlib.Core.Path.{_≡_, sym, _∙_}
+use mathlib.Core.Bool.{true}
 use borrow.Author.Tests.{eq-eqb, ne-eqb, not-true, not-false}
-use Rattle.words.specs.Shape.{shapeAnswer}
+use lib.ListN.{length}
 use borrow.Author.Needs.{needs}
+use Rattle.words.specs.Limits.{inRange}
+use Rattle.words.specs.Refusal.{refuseFirst}
+use Rattle.words.specs.Shape.{outside, shapeAnswer}
+use Rattle.words.specs.declared.answer.Refusal.the-variants.{RowOutside}
+use Rattle.words.specs.declared.answer.Answer.the-variants.{Done}
+use Rattle.words.proofs.AnswerLaws.{first-refused, first-passes}
 use Rattle.words.proofs.shape.shape.Statement.{statement}
 use Rattle.words.proofs.shape.shape.Tie as tie
+
+-- n and k are in range
+ranged : (c : tie.Else1) → inRange (c .before .before .before .args .n) (c .before .before .before .args .k) ≡ true
+ranged c = sym (c .before .in-range .ensures) ∙ not-false _ (c .if1 .left)
+
+abbrev start : tie.Else2 → tie.Start
+start c = c .before .before .before .before
+
+-- past causes 1 and 2 the rows decide
+rows-decide : (c : tie.Else2)
+    → let a = start c .args in
+    refuseFirst (outside (a .n) (a .rows .now)) (length (a .rows .now)) RowOutside Done ≡ shapeAnswer (a .n) (a .k) (a .rows .now)
+unfolding shapeAnswer
+rows-decide c = simp (ranged (c .before), eq-eqb _ _ (c .if2 .left))
 
 returns : tie.Need-returns
 unfolding shapeAnswer
@@ -12,29 +33,19 @@ returns c = simp (sym (c .before .in-range .ensures) ∙ not-true _ (c .if1 .tak
 
 returns-2 : tie.Need-returns-2
 unfolding shapeAnswer
-returns-2 c = simp (sym (c .before .before .in-range .ensures) ∙ not-false _ (c .before .if1 .left), ne-eqb _ _ (c .if2 .taken))
+returns-2 c = simp (ranged (c .before), ne-eqb _ _ (c .if2 .taken))
 
 returns-3 : tie.Need-returns-3
-unfolding shapeAnswer
 returns-3 c =
-    let e = c .before .first-outside .ensures in
-    simp (
-      sym (c .before .before .before .before .in-range .ensures) ∙ not-false _ (c .before .before .before .if1 .left),
-      eq-eqb _ _ (c .before .before .if2 .left),
-      ← e,
-      ne-eqb _ _ (c .if3 .taken),
-    )
+    let a = start (c .before .before) .args in
+    first-refused (outside (a .n) (a .rows .now)) (length (a .rows .now)) RowOutside Done _ (c .before .first-outside .ensures) (c .if3 .taken)
+    ∙ rows-decide (c .before .before)
 
 returns-4 : tie.Need-returns-4
-unfolding shapeAnswer
 returns-4 c =
-    let e = c .before .first-outside .ensures in
-    simp (
-      sym (c .before .before .before .before .in-range .ensures) ∙ not-false _ (c .before .before .before .if1 .left),
-      eq-eqb _ _ (c .before .before .if2 .left),
-      ← e,
-      eq-eqb _ _ (c .if3 .left),
-    )
+    let a = start (c .before .before) .args in
+    first-passes (outside (a .n) (a .rows .now)) (length (a .rows .now)) RowOutside Done _ (c .before .first-outside .ensures) (c .if3 .left)
+    ∙ rows-decide (c .before .before)
 
 pub shape-spec : {M : Type 1} → statement M
 shape-spec = tie.close (tie.spec (λ c κs. search needs) returns returns-2 (λ c κs. search needs) returns-3 returns-4)
