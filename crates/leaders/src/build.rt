@@ -13,7 +13,7 @@ ghost use Rattle.coding.specs.Lists.{zeros};
 ghost use Rattle.coding.specs.Matrix.{encode};
 ghost use Rattle.coding.specs.Check.{syndrome};
 ghost use Rattle.coding.specs.Order.{words, order, fills, blanks};
-ghost use Rattle.words.specs.Limits.{maxChecks};
+ghost use Rattle.words.specs.Limits.{maxChecks, width};
 ghost use Rattle.leaders.specs.Leaders.{LeadersOf};
 ghost use Rattle.leaders.specs.Inner.Built.{columnsOf, Trying, Tried, builtList};
 
@@ -149,7 +149,7 @@ fn fill_words(
 
 // The list of the leaders: every word of n places and weight up to c has been offered.
 fn fill_list(list: &mut [u32], cols: &[u32; WIDTH], n: usize, c: usize)
-    requires { ⌜ (length (now cols) ≡ 32) × (n ≤ 32) × (c < 32) × (0 < length (now list)) × (length (now list) < 2 ^ 32) ⌝ }
+    requires { ⌜ (length (now cols) ≡ width) × (n ≤ width) × (c < width) × (0 < length (now list)) × (length (now list) < 2 ^ 32) ⌝ }
     requires { ⌜ ((w : ℕ) → encode (now cols) w < length (now list)) ⌝ }
     ensures { λ _. ⌜ now (list .exit) ≡ fills (encode (now (cols .entry))) (blanks (length (now (list .entry)))) (order n (suc c)) ⌝ }
 {
@@ -165,7 +165,7 @@ fn fill_list(list: &mut [u32], cols: &[u32; WIDTH], n: usize, c: usize)
 
 // The list becomes the leaders.
 fn build(checks: &[u32; MAX_CHECKS], n: usize, c: usize, list: &mut [u32])
-    requires { ⌜ (n ≤ 32) × (c < 32) × (length (now list) ≡ 2 ^ c) × ((w : ℕ) → syndrome (now checks) w < 2 ^ c) ⌝ }
+    requires { ⌜ (n ≤ width) × (c < width) × (length (now list) ≡ 2 ^ c) × ((w : ℕ) → syndrome (now checks) w < 2 ^ c) ⌝ }
     ensures { λ _. ⌜ now (list .exit) ≡ builtList (now (checks .entry)) n c ⌝ }
 {
     let cols = columns(checks);

@@ -12,7 +12,7 @@ ghost use Rattle.coding.specs.Matrix.{Inside};
 ghost use Rattle.coding.specs.Lists.{zeros, padded};
 ghost use Rattle.coding.specs.Inner.Beside.{wipes};
 ghost use Rattle.coding.specs.Reduce.{rowsOf};
-ghost use Rattle.words.specs.Limits.{maxRows};
+ghost use Rattle.words.specs.Limits.{maxRows, width};
 ghost use Rattle.linear.specs.Inner.Eliminated.{Eliminated};
 ghost use Rattle.linear.specs.Reduction.{ReductionOf};
 ghost use Rattle.linear.specs.ReducedRows.{ReducedRowsOf};
@@ -26,7 +26,7 @@ pub(crate) struct Elimination {
 
 // Adds x to the entries beside the rows that have a one at place q, and puts x at q.
 fn put(rows: &[u32; WIDTH], entries: &mut [u32; WIDTH], q: usize, x: u32)
-    requires { ⌜ (q < 32) × (length (now rows) ≡ 32) × (length (now entries) ≡ 32) ⌝ }
+    requires { ⌜ (q < width) × (length (now rows) ≡ width) × (length (now entries) ≡ width) ⌝ }
     ensures { λ _. ⌜ now (entries .exit) ≡ set (wipes q (now (rows .entry)) (now (entries .entry)) x) q x ⌝ }
 {
     let mut p: usize = 0;
@@ -40,8 +40,8 @@ fn put(rows: &[u32; WIDTH], entries: &mut [u32; WIDTH], q: usize, x: u32)
 // Gauss-Jordan elimination over rows and places: each row is cleared at the pivots of the rows before it, and the search ends
 // at the first row that cancels to zero.
 pub(crate) fn eliminate(rows: &[u32]) -> Elimination
-    requires { ⌜ length (now rows) ≤ 32 ⌝ }
-    requires { ⌜ Inside 32 (now rows) ⌝ }
+    requires { ⌜ length (now rows) ≤ width ⌝ }
+    requires { ⌜ Inside width (now rows) ⌝ }
     ensures { λ r. ⌜ Eliminated (now (rows .entry)) r ⌝ }
 {
     let mut table = [0u32; WIDTH];
@@ -85,7 +85,7 @@ pub struct Reduction {
 }
 
 fn refused(answer: Answer) -> Reduction
-    ensures { λ r. ⌜ (r .answer ≡ answer) × (r .rows ≡ zeros maxRows) × (r .table ≡ zeros 32) × (r .messages ≡ zeros 32) ⌝ }
+    ensures { λ r. ⌜ (r .answer ≡ answer) × (r .rows ≡ zeros maxRows) × (r .table ≡ zeros width) × (r .messages ≡ zeros width) ⌝ }
 {
     Reduction {
         answer,

@@ -14,7 +14,7 @@ ghost use lib.ListN.{length, take, drop};
 ghost use Rattle.coding.specs.Lists.{zeros, padded};
 ghost use Rattle.coding.specs.Reduce.{freesFrom};
 ghost use Rattle.coding.specs.Check.{column, check, syndrome};
-ghost use Rattle.words.specs.Limits.{maxChecks};
+ghost use Rattle.words.specs.Limits.{maxChecks, width};
 ghost use Rattle.parity.specs.ParityChecks.{CodeOf, ParityChecksOf};
 
 // The answer to a matrix, and where it is accepted its n - k check rows; 0 at every other entry.
@@ -24,7 +24,7 @@ pub struct ParityChecks {
 }
 
 fn parities(checks: &[u32], w: u32) -> u32
-    requires { ⌜ length (now checks) ≤ 32 ⌝ }
+    requires { ⌜ length (now checks) ≤ width ⌝ }
     ensures { λ r. ⌜ r ≡ syndrome (now (checks .entry)) w ⌝ }
 {
     let mut s: u32 = 0;
@@ -70,7 +70,7 @@ pub fn syndrome(checks: &[u32; MAX_CHECKS], w: u32) -> u32
 
 // Place q of each row.
 fn column(rows: &[u32], q: u32) -> u32
-    requires { ⌜ length (now rows) ≤ 32 ⌝ }
+    requires { ⌜ length (now rows) ≤ width ⌝ }
     ensures { λ r. ⌜ r ≡ column (now (rows .entry)) q ⌝ }
 {
     let mut c: u32 = 0;
@@ -84,7 +84,7 @@ fn column(rows: &[u32], q: u32) -> u32
 
 // The check rows of the places below n that are no pivot, in rising order.
 fn check_rows(table: &[u32], n: usize) -> [u32; MAX_CHECKS]
-    requires { ⌜ (length (now table) ≡ 32) × (n ≤ 32) × (length (freesFrom 0 (take n (now table))) ≤ maxChecks) ⌝ }
+    requires { ⌜ (length (now table) ≡ width) × (n ≤ width) × (length (freesFrom 0 (take n (now table))) ≤ maxChecks) ⌝ }
     ensures { λ r. ⌜ r ≡ padded maxChecks (map (check (now (table .entry))) (freesFrom 0 (take n (now (table .entry))))) ⌝ }
 {
     let mut checks = [0u32; MAX_CHECKS];

@@ -7,7 +7,7 @@ use outcomes::outcome::Reading;
 use weights::describe::describe;
 use words::limits::MAX_CHECKS;
 use words::limits::MAX_ROWS;
-use words::limits::WIDTH;
+use words::limits::WEIGHT_SLOTS;
 ghost use mathlib.Core.Path.{_≡_};
 ghost use lib.ListN.{length};
 ghost use Rattle.words.specs.Accepted.{matrixAnswer};
@@ -27,7 +27,7 @@ pub extern "C" fn relay_describe(
     rows: &[u32],
     reduced: &mut [u32; MAX_ROWS],
     checks: &mut [u32; MAX_CHECKS],
-    counts: &mut [u32; WIDTH + 1],
+    counts: &mut [u32; WEIGHT_SLOTS],
     dmin: &mut u32,
     lightest: &mut u32,
     value: &mut usize,

@@ -7,6 +7,7 @@ ghost use Rattle.sheet_run.specs.Inner.Appended.{Appends};
 ghost use Rattle.sheet_run.specs.Decimal.{decimal};
 ghost use Rattle.sheet_run.specs.Output.{refusedLine, codeLine, digitsOf};
 ghost use Rattle.sheet_run.specs.Inner.Slots.{slotEnding, slotLine, slotLines};
+ghost use Rattle.words.specs.Limits.{width};
 
 const SPACE: u8 = 32;
 
@@ -80,7 +81,7 @@ fn put_code(out: &mut [u8], n: u32, k: u32, d: u32) -> usize
 
 // The n digits of a word, place 0 leftmost.
 fn put_digits(out: &mut [u8], at: usize, n: u32, w: u32) -> usize
-    requires { ⌜ (n ≤ 32) × (at + n ≤ length (now out)) ⌝ }
+    requires { ⌜ (n ≤ width) × (at + n ≤ length (now out)) ⌝ }
     ensures { λ r. ⌜ Appends (now (out .entry)) at (digitsOf n w) (now (out .exit)) r ⌝ }
 {
     let mut p: usize = 0;
@@ -104,7 +105,7 @@ fn put_ending(out: &mut [u8], at: usize, count: u8) -> usize
 }
 
 fn put_line(out: &mut [u8], at: usize, n: u32, c: u32, count: u8) -> usize
-    requires { ⌜ (n ≤ 32) × (at + 37 ≤ length (now out)) ⌝ }
+    requires { ⌜ (n ≤ width) × (at + 37 ≤ length (now out)) ⌝ }
     ensures { λ r. ⌜ Appends (now (out .entry)) at (slotLine n c count) (now (out .exit)) r ⌝ }
     ensures { λ r. ⌜ r ≤ at + 37 ⌝ }
 {
@@ -116,7 +117,7 @@ fn put_line(out: &mut [u8], at: usize, n: u32, c: u32, count: u8) -> usize
 
 // A line for each slot of the lists.
 fn put_lines(out: &mut [u8], at: usize, n: u32, codewords: &[u32], counts: &[u8]) -> usize
-    requires { ⌜ (n ≤ 32) × (length (now counts) ≡ length (now codewords)) × (at + 37 * length (now codewords) ≤ length (now out)) ⌝ }
+    requires { ⌜ (n ≤ width) × (length (now counts) ≡ length (now codewords)) × (at + 37 * length (now codewords) ≤ length (now out)) ⌝ }
     ensures { λ r. ⌜ Appends (now (out .entry)) at (slotLines n (now (codewords .entry)) (now (counts .entry))) (now (out .exit)) r ⌝ }
 {
     let mut next = at;
@@ -137,7 +138,7 @@ pub(crate) fn put_batch(
     codewords: &[u32],
     counts: &[u8],
 ) -> usize
-    requires { ⌜ (n ≤ 32) × (1 ≤ d) × (length (now counts) ≡ length (now codewords)) × (84 + 37 * length (now codewords) ≤ length (now out)) ⌝ }
+    requires { ⌜ (n ≤ width) × (1 ≤ d) × (length (now counts) ≡ length (now codewords)) × (84 + 37 * length (now codewords) ≤ length (now out)) ⌝ }
     ensures { λ r. ⌜ Appends (now (out .entry)) 0 (codeLine n k d ++ slotLines n (now (codewords .entry)) (now (counts .entry))) (now (out .exit)) r ⌝ }
 {
     let a = put_code(out, n, k, d);

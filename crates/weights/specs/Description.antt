@@ -4,6 +4,7 @@ use mathlib.Core.List.{List}
 use Prim.Native.Nat.{ℕ, _^_}
 use Rattle.coding.specs.Lists.{zeros, padded, total}
 use Rattle.coding.specs.Weight.{weightCounts, dmin, MinimumDistance, Lightest}
+use Rattle.words.specs.Limits.{weightSlots}
 use Rattle.words.specs.Refusal.{ifDone}
 use Rattle.words.specs.Accepted.{matrixAnswer}
 use Rattle.linear.specs.ReducedRows.{ReducedRowsOf}
@@ -18,7 +19,7 @@ use Rattle.weights.specs.declared.describe.Description.{Description}
 pub record WeightsOf (n k : ℕ) (rows : List ℕ) (r : Weights) : Type 0 where
   pub answer : r .answer ≡ matrixAnswer n k rows
   pub dmin-is : r .dmin ≡ ifDone (r .answer) (dmin rows) 0
-  pub counts-are : r .counts ≡ ifDone (r .answer) (padded 33 (weightCounts n rows)) (zeros 33)
+  pub counts-are : r .counts ≡ ifDone (r .answer) (padded weightSlots (weightCounts n rows)) (zeros weightSlots)
   pub distance : r .answer ≡ Done → MinimumDistance n rows (dmin rows)
   pub sum : r .answer ≡ Done → total (weightCounts n rows) ≡ 2 ^ k
   pub lightest : r .answer ≡ Done → Lightest rows (r .lightest)

@@ -4,10 +4,10 @@ use parity::check::code_of;
 use words::answer::Answer;
 use words::limits::MAX_CHECKS;
 use words::limits::MAX_ROWS;
-use words::limits::WIDTH;
+use words::limits::WEIGHT_SLOTS;
 ghost use mathlib.Core.Path.{_≡_};
 ghost use Rattle.coding.specs.Lists.{zeros};
-ghost use Rattle.words.specs.Limits.{maxRows, maxChecks};
+ghost use Rattle.words.specs.Limits.{maxRows, maxChecks, weightSlots};
 ghost use Rattle.weights.specs.Description.{DescriptionOf};
 
 // The answer to a matrix; where it is accepted, its reduced rows, check rows, minimum distance, weight counts and a codeword of
@@ -17,19 +17,19 @@ pub struct Description {
     pub rows: [u32; MAX_ROWS],
     pub checks: [u32; MAX_CHECKS],
     pub dmin: u32,
-    pub counts: [u32; WIDTH + 1],
+    pub counts: [u32; WEIGHT_SLOTS],
     pub lightest: u32,
 }
 
 fn refused(answer: Answer) -> Description
-    ensures { λ r. ⌜ (r .answer ≡ answer) × (r .rows ≡ zeros maxRows) × (r .checks ≡ zeros maxChecks) × (r .dmin ≡ 0) × (r .counts ≡ zeros 33) × (r .lightest ≡ 0) ⌝ }
+    ensures { λ r. ⌜ (r .answer ≡ answer) × (r .rows ≡ zeros maxRows) × (r .checks ≡ zeros maxChecks) × (r .dmin ≡ 0) × (r .counts ≡ zeros weightSlots) × (r .lightest ≡ 0) ⌝ }
 {
     Description {
         answer,
         rows: [0u32; MAX_ROWS],
         checks: [0u32; MAX_CHECKS],
         dmin: 0,
-        counts: [0u32; WIDTH + 1],
+        counts: [0u32; WEIGHT_SLOTS],
         lightest: 0,
     }
 }

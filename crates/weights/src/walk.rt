@@ -1,6 +1,6 @@
 // One walk over all codewords. The codewords of the first rows, at most 256, are kept as a block; each sum of the other rows is added
 // to the whole block, so that a codeword costs one sum.
-use words::limits::WIDTH;
+use words::limits::WEIGHT_SLOTS;
 use words::sums::row_sum;
 use words::word::distance;
 ghost use mathlib.Core.Path.{_≡_};
@@ -11,6 +11,7 @@ ghost use lib.ListN.{length, getD};
 ghost use Rattle.coding.specs.Lists.{first, tabulate};
 ghost use Rattle.coding.specs.Word.{distance};
 ghost use Rattle.coding.specs.Matrix.{encode};
+ghost use Rattle.words.specs.Limits.{weightSlots, width};
 ghost use Rattle.weights.specs.Inner.Walked.{leastOf, Tallied, BlockWalked, Walked};
 
 // The rows of a block, and its codewords.
@@ -18,9 +19,12 @@ const BLOCK_ROWS: usize = 8;
 
 const BLOCK: usize = 256;
 
+// Stands for no weight: heavier than any word.
+const NO_WEIGHT: u32 = 33;
+
 // What a walk has found: how many codewords of each weight, the least weight but 0 (33 where there is none), and a word of it.
 pub(crate) struct Walk {
-    pub(crate) counts: [u32; WIDTH + 1],
+    pub(crate) counts: [u32; WEIGHT_SLOTS],
     pub(crate) least: u32,
     pub(crate) lightest: u32,
 }
@@ -50,9 +54,9 @@ fn block_weights(block: &[u32], base: u32, weights: &mut [u32])
 }
 
 // Counts each weight once more for each word that has it.
-fn tally(weights: &[u32], counts: &mut [u32; WIDTH + 1])
-    requires { ⌜ length (now counts) ≡ 33 ⌝ }
-    requires { ⌜ ((i : ℕ) → i < length (now weights) → getD (now weights) i 0 < 33) ⌝ }
+fn tally(weights: &[u32], counts: &mut [u32; WEIGHT_SLOTS])
+    requires { ⌜ length (now counts) ≡ weightSlots ⌝ }
+    requires { ⌜ ((i : ℕ) → i < length (now weights) → getD (now weights) i 0 < weightSlots) ⌝ }
     requires { ⌜ ((j : ℕ) → getD (now counts) j 0 + length (now weights) < 2 ^ 32) ⌝ }
     ensures { λ _. ⌜ Tallied (now (weights .entry)) (now (counts .entry)) (now (counts .exit)) ⌝ }
 {
@@ -66,7 +70,7 @@ fn tally(weights: &[u32], counts: &mut [u32; WIDTH + 1])
 
 // The least weight but 0 that has been counted, or 33.
 fn least_of(counts: &[u32]) -> u32
-    requires { ⌜ length (now counts) ≡ 33 ⌝ }
+    requires { ⌜ length (now counts) ≡ weightSlots ⌝ }
     ensures { λ r. ⌜ r ≡ leastOf (now (counts .entry)) ⌝ }
 {
     let mut j: usize = 1;
@@ -96,7 +100,7 @@ fn first_of(weights: &[u32], w: u32) -> usize
 // The walk goes on over the block with base added; the second list is room for its weights.
 fn walk_block(block: &[u32], base: u32, weights: &mut [u32], walk: Walk) -> Walk
     requires { ⌜ length (now weights) ≡ length (now block) ⌝ }
-    requires { ⌜ (length (walk .counts) ≡ 33) × (walk .least ≡ leastOf (walk .counts)) ⌝ }
+    requires { ⌜ (length (walk .counts) ≡ weightSlots) × (walk .least ≡ leastOf (walk .counts)) ⌝ }
     requires { ⌜ ((j : ℕ) → getD (walk .counts) j 0 + length (now block) < 2 ^ 32) ⌝ }
     ensures { λ r. ⌜ BlockWalked (now (block .entry)) base walk r × (length (now (weights .exit)) ≡ length (now (weights .entry))) ⌝ }
 {
@@ -122,14 +126,14 @@ fn walk_block(block: &[u32], base: u32, weights: &mut [u32], walk: Walk) -> Walk
 // The walk over all sums of the first rows and the others, block by block.
 fn walk_blocks(front: &[u32], others: &[u32], block: &mut [u32], weights: &mut [u32]) -> Walk
     requires { ⌜ (length (now block) ≡ 2 ^ length (now front)) × (length (now block) ≤ 256) × (length (now weights) ≡ length (now block)) ⌝ }
-    requires { ⌜ length (now front) + length (now others) < 32 ⌝ }
+    requires { ⌜ length (now front) + length (now others) < width ⌝ }
     ensures { λ r. ⌜ Walked (now (front .entry) ++ now (others .entry)) (2 ^ (length (now (front .entry)) + length (now (others .entry)))) r ⌝ }
 {
     fill_block(front, block);
     let end = 1u32 << others.len();
     let mut walk = Walk {
-        counts: [0u32; WIDTH + 1],
-        least: 33,
+        counts: [0u32; WEIGHT_SLOTS],
+        least: NO_WEIGHT,
         lightest: 0,
     };
     let mut h: u32 = 0;
@@ -150,7 +154,7 @@ fn block_rows(k: usize) -> usize
 
 // The walk over all codewords of the rows.
 pub(crate) fn walk_all(rows: &[u32]) -> Walk
-    requires { ⌜ length (now rows) < 32 ⌝ }
+    requires { ⌜ length (now rows) < width ⌝ }
     ensures { λ r. ⌜ Walked (now (rows .entry)) (2 ^ length (now (rows .entry))) r ⌝ }
 {
     let mut block = [0u32; BLOCK];

@@ -2,7 +2,7 @@
 use crate::walk::walk_all;
 use linear::accept::accept;
 use words::answer::Answer;
-use words::limits::WIDTH;
+use words::limits::WEIGHT_SLOTS;
 ghost use Rattle.weights.specs.Description.{WeightsOf};
 
 // The answer to a matrix; where it is accepted, its minimum distance, how many codewords it has of each weight (0 past n), and a
@@ -10,7 +10,7 @@ ghost use Rattle.weights.specs.Description.{WeightsOf};
 pub struct Weights {
     pub answer: Answer,
     pub dmin: u32,
-    pub counts: [u32; WIDTH + 1],
+    pub counts: [u32; WEIGHT_SLOTS],
     pub lightest: u32,
 }
 
@@ -22,7 +22,7 @@ pub fn weights_of(n: u32, k: u32, rows: &[u32]) -> Weights
         return Weights {
             answer,
             dmin: 0,
-            counts: [0u32; WIDTH + 1],
+            counts: [0u32; WEIGHT_SLOTS],
             lightest: 0,
         };
     };

@@ -1,4 +1,4 @@
--- The limits of 01, "Words and matrices" and cause 6. No other definition has these numbers.
+-- The limits of 01, "Words and matrices" and cause 6, and the sizes of the tables. No other definition has these numbers.
 use mathlib.Core.Bool.{Bool, _&&_}
 use Prim.Native.Nat.{ℕ, _+_, _≤_}
 use lib.Dec.{leb}
@@ -14,6 +14,14 @@ maxChecks = 12
 
 abbrev pub maxWords : ℕ
 maxWords = 512
+
+-- the places of a machine word: a table by place has so many entries
+abbrev pub width : ℕ
+width = 32
+
+-- the weights that such a word can have, 0 to 32
+abbrev pub weightSlots : ℕ
+weightSlots = 33
 
 -- n is 2 to 28, k is 1 to 16, n - k is 1 to 12
 pub record InRange (n k : ℕ) : Type 0 where

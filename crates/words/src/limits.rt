@@ -11,3 +11,6 @@ pub const MAX_WORDS: usize = 512;
 
 // The places of a machine word.
 pub const WIDTH: usize = 32;
+
+// The weights that such a word can have, 0 to 32.
+pub const WEIGHT_SLOTS: usize = 33;

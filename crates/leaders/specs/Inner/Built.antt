@@ -9,20 +9,21 @@ use Rattle.coding.specs.Matrix.{encode}
 use Rattle.coding.specs.Check.{syndrome}
 use Rattle.coding.specs.Order.{words, order, fills, blanks}
 use Rattle.coding.specs.Inner.Blanks.{blankCount}
+use Rattle.words.specs.Limits.{width}
 
 -- the syndromes of the words with a single one
 unfoldable pub columnsOf : List ℕ → List ℕ
-columnsOf checks = tabulate (λ p. syndrome checks (2 ^ p)) 32
+columnsOf checks = tabulate (λ p. syndrome checks (2 ^ p)) width
 
 -- the words prefix + w of m places and weight t more are to be tried: the prefix has its ones at place m or beyond and its syndrome is s,
 -- every syndrome has an entry, and `blank` entries are blank
 pub record Trying (list cols : List ℕ) (m t prefix s blank : ℕ) : Type 0 where
-  pub columns : length cols ≡ 32
-  pub places : m ≤ 32
+  pub columns : length cols ≡ width
+  pub places : m ≤ width
   pub some : 1 ≤ t
   pub above : (a : ℕ) × (prefix ≡ a * 2 ^ m)
   pub room : prefix + 2 ^ m ≤ 2 ^ 32
-  pub light : weight prefix + t < 32
+  pub light : weight prefix + t < width
   pub at : s ≡ encode cols prefix
   pub entries : (w : ℕ) → encode cols w < length list
   pub left : blank ≡ blankCount list
