@@ -1,5 +1,5 @@
 -- Laws of the causes of Decode: which group refuses, and what is known when none does. Assumes nothing.
-use mathlib.Core.Path.{_≡_, refl}
+use mathlib.Core.Path.{_≡_, refl, sym, ap}
 use mathlib.Core.List.{List}
 use mathlib.Core.Bool.{Bool, true, false}
 use Prim.Native.Nat.{ℕ, _+_, _-_, _*_, _/_, _^_, _≤_, _<_, min}
@@ -12,7 +12,8 @@ use Rattle.coding.specs.Weight.{dmin}
 use Rattle.words.specs.Limits.{maxWords, inRange}
 use Rattle.words.specs.Refusal.{numberOf, unless, andThen, ifDone}
 use Rattle.words.specs.Shape.{firstOutside, shapeAnswer}
-use Rattle.words.specs.Accepted.{matrixAnswer}
+use Rattle.words.specs.Accepted.{matrixAnswer, Accepted}
+use Rattle.words.proofs.AcceptedLaws.{accepted-in}
 use Rattle.words.specs.Lists.{listAnswer}
 use Rattle.words.specs.declared.answer.Refusal.{Refusal}
 use Rattle.words.specs.declared.answer.Refusal.the-variants.{OutOfRange, RowCount, RowOutside, Dependent, RadiusTooLarge, TooManyWords, WordOutside, ShortOutput, ShortWork}
@@ -22,6 +23,8 @@ use Rattle.words.proofs.AnswerLaws.{unless-done, andThen-done}
 use Rattle.words.proofs.WordListLaws.{Listed, list-in}
 use Rattle.weights.specs.Description.{WeightsOf}
 use Rattle.weights.specs.declared.weights.Weights.{Weights}
+use Rattle.decoder.specs.Inner.Known.{asked, KnownOf}
+use Rattle.decoder.specs.declared.matrix.Known.{Known}
 use Rattle.decoder.specs.Causes.{radiusAnswer, listsAnswer, decodeAnswer}
 use Rattle.leaders.specs.Leaders.{workAnswer}
 use Rattle.outcomes.specs.declared.outcome.Reading.{Reading}
@@ -38,42 +41,65 @@ radius-fits r d h l = simp (le-leb (2 * r + 1) d (omega arith))
 pub radius-in : (r d : ℕ) → radiusAnswer (Within r) d ≡ Done → 2 * r + 1 ≤ d
 radius-in r d e = leb-true (2 * r + 1) d (unless-done (leb (2 * r + 1) d) RadiusTooLarge Done e .0)
 
--- what the walk leaves known of an accepted matrix
-pub measured-is : {n k : ℕ} {rows : List ℕ} {w : Weights} → WeightsOf n k rows w → w .answer ≡ Done → (w .dmin ≡ dmin rows) × (1 ≤ w .dmin)
-measured-is {rows = rows} {w = w} W d =
-    let e : w .dmin ≡ dmin rows = rw d at (W .dmin-is) in
-    (e, rw e (W .distance d .bounds .0))
+-- it asks for the minimum distance only within a radius
+pub radius-same : (reading : Reading) (measure : Bool) (d e : ℕ) → (asked reading measure ≡ true → d ≡ e) → radiusAnswer reading d ≡ radiusAnswer reading e
+radius-same Nearest measure d e f = refl
+radius-same (Within r) measure d e f = ap (radiusAnswer (Within r)) (f refl)
+
+pub asked-within : (reading : Reading) (measure : Bool) (r : ℕ) → reading ≡ Within r → asked reading measure ≡ true
+asked-within reading measure r e = ap (λ (x : Reading). asked x measure) e
+
+pub asked-measured : (reading : Reading) (measure : Bool) → measure ≡ true → asked reading measure ≡ true
+asked-measured Nearest measure e = e
+asked-measured (Within r) measure e = refl
+
+-- what is known of an accepted matrix
+pub distance-of : {n k : ℕ} {rows : List ℕ} {measure : Bool} {r : Known} → KnownOf n k rows measure r → measure ≡ true → r .answer ≡ Done → r .dmin ≡ dmin rows
+distance-of K e d = rw d at (K .distance e)
+
+pub walked-positive : {n k : ℕ} {rows : List ℕ} {w : Weights} → WeightsOf n k rows w → w .answer ≡ Done → 1 ≤ w .dmin
+walked-positive {rows = rows} {w = w} W d = let e : w .dmin ≡ dmin rows = rw d at (W .dmin-is) in rw e (W .distance d .bounds .0)
 
 -- a refusal has no dmin beside it
 pub no-dmin : (a : Answer) (c : Refusal) (d : ℕ) → a ≡ Refused c → 0 ≡ ifDone a d 0
 no-dmin a c d e = rw e refl
 
--- ---- causes 6 to 9
-
-module _ (n k : ℕ) (words : List ℕ) (slots bytes room : ℕ) where
-  pub at-list : (c : Refusal) → listAnswer words n (min slots bytes) ≡ Refused c → Refused c ≡ listsAnswer n k words slots bytes room
-  unfolding listsAnswer
-  at-list c e = rw e refl
-
-  pub at-work : listAnswer words n (min slots bytes) ≡ Done → workAnswer room (2 ^ (n - k)) ≡ listsAnswer n k words slots bytes room
-  unfolding listsAnswer
-  at-work e = rw e refl
-
 -- ---- the groups in order
 
+-- past the causes of the matrix it is accepted
+pub accepted-past : (n k : ℕ) (rows : List ℕ) (later : Answer) → andThen (matrixAnswer n k rows) later ≡ Done → Accepted n k rows
+accepted-past n k rows later e = accepted-in n k rows (andThen-done (matrixAnswer n k rows) later e .0)
+
+-- a refusal among the first groups stands, whatever the last would say
+andThen-refused : (a b c : Answer) (r : Refusal) → andThen a b ≡ Refused r → Refused r ≡ andThen a (andThen b c)
+andThen-refused Done b c r e = rw e refl
+andThen-refused (Refused s) b c r e = sym e
+
+andThen-refused-third : (a b c d : Answer) (r : Refusal) → andThen a (andThen b c) ≡ Refused r → Refused r ≡ andThen a (andThen b (andThen c d))
+andThen-refused-third Done b c d r e = andThen-refused b c d r e
+andThen-refused-third (Refused s) b c d r e = sym e
+
 module _ (n k : ℕ) (rows : List ℕ) (reading : Reading) (words : List ℕ) (slots bytes room : ℕ) where
+  -- causes 1 to 4
   pub at-matrix : (c : Refusal) → matrixAnswer n k rows ≡ Refused c → Refused c ≡ decodeAnswer n k rows reading words slots bytes room
   unfolding decodeAnswer
   at-matrix c e = rw e refl
 
-  module _ (m : matrixAnswer n k rows ≡ Done) where
-    pub at-radius : (c : Refusal) → radiusAnswer reading (dmin rows) ≡ Refused c → Refused c ≡ decodeAnswer n k rows reading words slots bytes room
-    unfolding decodeAnswer
-    at-radius c e = rw (m, e) refl
+  -- causes 1 to 8
+  abbrev firstEight : Answer
+  firstEight = andThen (matrixAnswer n k rows) (andThen (radiusAnswer reading (dmin rows)) (listAnswer words n (min slots bytes)))
 
-    pub at-lists : radiusAnswer reading (dmin rows) ≡ Done → listsAnswer n k words slots bytes room ≡ decodeAnswer n k rows reading words slots bytes room
-    unfolding decodeAnswer
-    at-lists q = rw (m, q) refl
+  pub at-eight : (c : Refusal) → firstEight ≡ Refused c → Refused c ≡ decodeAnswer n k rows reading words slots bytes room
+  unfolding decodeAnswer listsAnswer
+  at-eight c e = andThen-refused-third (matrixAnswer n k rows) (radiusAnswer reading (dmin rows)) (listAnswer words n (min slots bytes)) _ c e
+
+  -- cause 9
+  pub at-work : firstEight ≡ Done → workAnswer room (2 ^ (n - k)) ≡ decodeAnswer n k rows reading words slots bytes room
+  unfolding decodeAnswer listsAnswer
+  at-work e =
+      let (m, f) = andThen-done (matrixAnswer n k rows) _ e in
+      let (a, b) = andThen-done (radiusAnswer reading (dmin rows)) (listAnswer words n (min slots bytes)) f in
+      rw (m, a, b) refl
 
   -- what is known when causes 1 to 9 have passed
   pub record Passed : Type 0 where

@@ -2,79 +2,121 @@
 use mathlib.Core.Path.{_≡_, refl, sym, ap, _∙_}
 use mathlib.Core.Logic.{inl, inr}
 use mathlib.Core.List.{List, _++_, map}
-use Prim.Native.Nat.{ℕ, _-_, _^_, _<_}
-use lib.ListN.{length, getD, drop}
-use Rattle.coding.specs.Leader.{IsLeader}
+use Prim.Native.Nat.{ℕ, _-_, _^_, _≤_, _<_}
+use native.Mathlib.Omega.{arith}
+use lib.ListN.{length, getD, take, drop, length-append}
+use lib.Seq.{take-at}
+use Rattle.coding.specs.Lists.{padded}
+use Rattle.coding.specs.Check.{checks, syndrome}
 use Rattle.coding.specs.Weight.{dmin}
+use Rattle.words.specs.Limits.{maxChecks}
 use Rattle.words.specs.Accepted.{Accepted}
-use Rattle.words.specs.Refusal.{onDone}
 use Rattle.words.specs.declared.answer.Refusal.{Refusal}
 use Rattle.words.specs.declared.answer.Answer.{Answer}
 use Rattle.words.specs.declared.answer.Answer.the-variants.{Done, Refused}
+use Rattle.words.proofs.AnswerLaws.{refused-done, kept, filled, written}
 use Rattle.words.proofs.AcceptedLaws.{accepted-in}
-use Rattle.words.proofs.AnswerLaws.{refused-done, kept, written}
-use Rattle.words.proofs.CodeLaws.{distance-is}
+use Rattle.words.proofs.CodeLaws.{distance-is, checks-below, leader-at}
 use Rattle.leaders.specs.Leaders.{leadersList}
-use Rattle.decoder.specs.Causes.{decodeAnswer}
+use Rattle.leaders.proofs.BuiltLaws.{leaders-long}
+use Rattle.leaders.proofs.LeaderPromiseLaws.{leader-slot}
 use Rattle.outcomes.specs.Outcome.{wordOf, countOf}
-use Rattle.decoder.specs.Decoded.{Decoded}
-use Rattle.outcomes.specs.declared.outcome.Reading.{Reading}
-use Rattle.decoder.proofs.CauseLaws.{Passed, batch-in, refused-number, radius-in}
-use Rattle.decoder.proofs.SlotLaws.{slot-at}
 use Rattle.outcomes.proofs.DemandLaws.{nearest-rule, radius-rule, clean-rule}
+use Rattle.decoder.specs.Causes.{decodeAnswer}
+use Rattle.decoder.specs.Decoded.{Batch, Lent, Decoded}
+use Rattle.decoder.specs.Inner.SlotsBy.{wordBy, countBy}
+use Rattle.decoder.proofs.CauseLaws.{Passed, batch-in, refused-number, radius-in}
+use Rattle.decoder.proofs.SlotLaws.{slot-at, words-are, counts-are}
 
-module _ (n k : ℕ) (rows : List ℕ) (reading : Reading) (words out counts work : List ℕ) where
-  -- causes 1 to 9 leave every list as it was
-  pub decode-refused : (r : Answer) (c : Refusal) → r ≡ Refused c → r ≡ decodeAnswer n k rows reading words (length out) (length counts) (length work)
-      → Decoded n k rows reading words out counts work r out counts work
-  decode-refused r c e b =
-      let (low, high) = refused-number n k rows reading words (length out) (length counts) (length work) c (sym b ∙ e) in
-      record {
-        answer = b;
-        either = inl (c, e, low, high, refl, refl, refl);
-        codewords = kept r c e _ out;
-        distances = kept r c e _ counts;
-        leaders = kept r c e _ work;
-        leader = λ d. refused-done (sym e ∙ d);
-        minimum = λ d. refused-done (sym e ∙ d);
-        nearest = λ d. refused-done (sym e ∙ d);
-        within = λ d. refused-done (sym e ∙ d);
-        clean = λ d. refused-done (sym e ∙ d);
-      }
+-- the answer to a batch
+abbrev pub answerTo : Batch → Lent → Answer
+answerTo B L = decodeAnswer (B .n) (B .k) (B .rows) (B .reading) (B .words) (length (L .codewords)) (length (L .counts)) (length (L .work))
 
-  module _ (b : decodeAnswer n k rows reading words (length out) (length counts) (length work) ≡ Done) where
-    passed : Passed n k rows reading words (length out) (length counts) (length work)
-    passed = batch-in n k rows reading words (length out) (length counts) (length work) b
-
-    pub past-causes : Accepted n k rows
-    past-causes = accepted-in n k rows (passed .matrix)
-
-    -- on success the lists are those of the definitions, and demand 3 holds word by word
-    pub decode-done : (out′ counts′ work′ : List ℕ)
-        → out′ ≡ map (wordOf n rows reading) words ++ drop (length words) out
-        → counts′ ≡ map (countOf n rows reading) words ++ drop (length words) counts
-        → work′ ≡ onDone Done (leadersList n k rows) work
-        → ((s : ℕ) → s < 2 ^ (n - k) → IsLeader n rows s (getD work′ s 0))
-        → Decoded n k rows reading words out counts work Done out′ counts′ work′
-    decode-done out′ counts′ work′ eo ec ew leaders = record {
-      answer = sym b;
-      either = inr refl;
-      codewords = written (wordOf n rows reading) words out out′ eo;
-      distances = written (countOf n rows reading) words counts counts′ ec;
-      leaders = ew;
-      leader = λ _. leaders;
-      minimum = λ _. distance-is n k rows A;
-      nearest = λ _ e i h. rw (out-slot i h, count-slot i h, e) (nearest-rule n k rows A (getD words i 0) (passed .listed .inside i h));
-      within = λ _ ρ e i h. rw (out-slot i h, count-slot i h, e)
-          (radius-rule n k rows A (getD words i 0) (passed .listed .inside i h) ρ (radius-in ρ (dmin rows) (rw e at (passed .radius))));
-      clean = λ _ i h. rw (count-slot i h) (clean-rule n k rows A reading (getD words i 0));
+-- a refusal leaves every list as it was
+pub decode-refused : (B : Batch) (L : Lent) (r : Answer) (c : Refusal) → r ≡ Refused c → r ≡ answerTo B L → (after : Lent) → after ≡ L → Decoded B L r after
+decode-refused B L r c e b after s =
+    let (low, high) = refused-number (B .n) (B .k) (B .rows) (B .reading) (B .words) _ _ _ c (sym b ∙ e) in
+    record {
+      answer = b;
+      either = inl (c, e, low, high, s);
+      codewords = ap (λ (l : Lent). l .codewords) s ∙ kept r c e _ (L .codewords);
+      distances = ap (λ (l : Lent). l .counts) s ∙ kept r c e _ (L .counts);
+      leaders = ap (λ (l : Lent). l .work) s ∙ kept r c e _ (L .work);
+      leader = λ d. refused-done (sym e ∙ d);
+      minimum = λ d. refused-done (sym e ∙ d);
+      nearest = λ d. refused-done (sym e ∙ d);
+      within = λ d. refused-done (sym e ∙ d);
+      clean = λ d. refused-done (sym e ∙ d);
     }
-      where
-        A : Accepted n k rows
-        A = past-causes
 
-        out-slot : (i : ℕ) → i < length words → getD out′ i 0 ≡ wordOf n rows reading (getD words i 0)
-        out-slot i h = ap (λ (l : List ℕ). getD l i 0) eo ∙ slot-at (wordOf n rows reading) words (drop (length words) out) i h
+-- ---- causes 1 to 9 have passed
 
-        count-slot : (i : ℕ) → i < length words → getD counts′ i 0 ≡ countOf n rows reading (getD words i 0)
-        count-slot i h = ap (λ (l : List ℕ). getD l i 0) ec ∙ slot-at (countOf n rows reading) words (drop (length words) counts) i h
+module _ (B : Batch) (L : Lent) (b : answerTo B L ≡ Done) where
+  passed : Passed (B .n) (B .k) (B .rows) (B .reading) (B .words) (length (L .codewords)) (length (L .counts)) (length (L .work))
+  passed = batch-in (B .n) (B .k) (B .rows) (B .reading) (B .words) _ _ _ b
+
+  A : Accepted (B .n) (B .k) (B .rows)
+  A = accepted-in (B .n) (B .k) (B .rows) (passed .matrix)
+
+  pub words-fit : (length (B .words) ≤ length (L .codewords)) × (length (B .words) ≤ length (L .counts))
+  words-fit = let h = passed .listed .room in (omega (arith, h), omega (arith, h))
+
+  -- on success the lists are those of the definitions, and demand 3 holds word by word
+  decode-done : (after : Lent)
+      → after .codewords ≡ map (wordOf (B .n) (B .rows) (B .reading)) (B .words) ++ drop (length (B .words)) (L .codewords)
+      → after .counts ≡ map (countOf (B .n) (B .rows) (B .reading)) (B .words) ++ drop (length (B .words)) (L .counts)
+      → after .work ≡ leadersList (B .n) (B .k) (B .rows) ++ drop (2 ^ (B .n - B .k)) (L .work)
+      → Decoded B L Done after
+  decode-done after eo ec ew = record {
+    answer = sym b;
+    either = inr refl;
+    codewords = written (wordOf (B .n) (B .rows) (B .reading)) (B .words) (L .codewords) (after .codewords) eo;
+    distances = written (countOf (B .n) (B .rows) (B .reading)) (B .words) (L .counts) (after .counts) ec;
+    leaders = filled (leadersList (B .n) (B .k) (B .rows)) (L .work) (after .work) _ (leaders-long (B .n) (B .k) (B .rows) A) ew;
+    leader = λ _ s l. rw (ew, leader-slot (B .n) (B .k) (B .rows) A (drop (2 ^ (B .n - B .k)) (L .work)) s l) (leader-at (B .n) (B .k) (B .rows) A s l);
+    minimum = λ _. distance-is (B .n) (B .k) (B .rows) A;
+    nearest = λ _ e i h. rw (out-slot i h, count-slot i h, e) (nearest-rule (B .n) (B .k) (B .rows) A (getD (B .words) i 0) (passed .listed .inside i h));
+    within = λ _ ρ e i h. rw (out-slot i h, count-slot i h, e)
+        (radius-rule (B .n) (B .k) (B .rows) A (getD (B .words) i 0) (passed .listed .inside i h) ρ
+        (radius-in ρ (dmin (B .rows)) (rw e at (passed .radius))));
+    clean = λ _ i h. rw (count-slot i h) (clean-rule (B .n) (B .k) (B .rows) A (B .reading) (getD (B .words) i 0));
+  }
+    where
+      out-slot : (i : ℕ) → i < length (B .words) → getD (after .codewords) i 0 ≡ wordOf (B .n) (B .rows) (B .reading) (getD (B .words) i 0)
+      out-slot i h = ap (λ (l : List ℕ). getD l i 0) eo ∙ slot-at (wordOf (B .n) (B .rows) (B .reading)) (B .words) _ i h
+
+      count-slot : (i : ℕ) → i < length (B .words) → getD (after .counts) i 0 ≡ countOf (B .n) (B .rows) (B .reading) (getD (B .words) i 0)
+      count-slot i h = ap (λ (l : List ℕ). getD l i 0) ec ∙ slot-at (countOf (B .n) (B .rows) (B .reading)) (B .words) _ i h
+
+  -- ---- the leaders stand in the working list
+
+  module _ (hs work : List ℕ) (is : hs ≡ padded maxChecks (checks (B .n) (B .rows)))
+      (ew : work ≡ leadersList (B .n) (B .k) (B .rows) ++ drop (2 ^ (B .n - B .k)) (L .work)) where
+    leaders-lent : take (2 ^ (B .n - B .k)) work ≡ leadersList (B .n) (B .k) (B .rows)
+    leaders-lent =
+        ap (take (2 ^ (B .n - B .k))) ew ∙ take-at (leadersList (B .n) (B .k) (B .rows)) _ (2 ^ (B .n - B .k)) (leaders-long (B .n) (B .k) (B .rows) A)
+
+    pub lent-long : length (take (2 ^ (B .n - B .k)) work) ≡ 2 ^ (B .n - B .k)
+    lent-long = ap length leaders-lent ∙ leaders-long (B .n) (B .k) (B .rows) A
+
+    pub work-long : 2 ^ (B .n - B .k) ≤ length work
+    work-long = omega (arith, ap length ew ∙ length-append (leadersList (B .n) (B .k) (B .rows)) _, leaders-long (B .n) (B .k) (B .rows) A)
+
+    pub syndromes-fit : (w : ℕ) → syndrome hs w < length (take (2 ^ (B .n - B .k)) work)
+    syndromes-fit w = rw (lent-long, is) (checks-below (B .n) (B .k) (B .rows) A w)
+
+    -- the lists written are those of the definitions
+    pub decode-ends : (out counts : List ℕ)
+        → out ≡ map (wordBy (B .reading) (take (2 ^ (B .n - B .k)) work) hs) (B .words) ++ drop (length (B .words)) (L .codewords)
+        → counts ≡ map (countBy (B .reading) (take (2 ^ (B .n - B .k)) work) hs) (B .words) ++ drop (length (B .words)) (L .counts)
+        → Decoded B L Done (record { codewords = out; counts = counts; work = work })
+    decode-ends out counts eo ec =
+        let lent = take (2 ^ (B .n - B .k)) work in
+        decode-done _
+        (eo ∙ ap (λ (x : List ℕ). x ++ drop (length (B .words)) (L .codewords))
+        (ap (λ (h : List ℕ). map (wordBy (B .reading) lent h) (B .words)) is
+        ∙ words-are (B .n) (B .k) (B .rows) A (B .reading) lent leaders-lent (B .words)))
+        (ec ∙ ap (λ (x : List ℕ). x ++ drop (length (B .words)) (L .counts))
+        (ap (λ (h : List ℕ). map (countBy (B .reading) lent h) (B .words)) is
+        ∙ counts-are (B .n) (B .k) (B .rows) A (B .reading) lent leaders-lent (B .words)))
+        ew

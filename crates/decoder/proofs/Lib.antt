@@ -1,4 +1,3 @@
 mod DecodePromiseLaws
-mod DecodeStepLaws
 pub mod CauseLaws
 mod SlotLaws

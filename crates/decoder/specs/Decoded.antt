@@ -20,19 +20,35 @@ use Rattle.outcomes.specs.declared.outcome.Reading.{Reading}
 use Rattle.outcomes.specs.declared.outcome.Reading.the-variants.{Nearest, Within}
 use Rattle.outcomes.specs.declared.outcome.Outcome.the-variants.{Clean}
 
+-- what Decode is given: the matrix, the reading and the received words
+pub record Batch : Type 0 where
+  pub n : ℕ
+  pub k : ℕ
+  pub rows : List ℕ
+  pub reading : Reading
+  pub words : List ℕ
+
+-- the lists lent to it
+pub record Lent : Type 0 where
+  pub codewords : List ℕ
+  pub counts : List ℕ
+  pub work : List ℕ
+
 -- Decode either refuses under 1 to 9 with every list unchanged, or succeeds. Then slot i of the codewords and of the counts is the answer
 -- to word i, 255 meaning far, the working list holds the leaders, and later slots are as they were; dmin is the minimum distance, demand 3
 -- holds of every word of the batch, in either reading, and a word is clean exactly when its count is 0
-pub record Decoded (n k : ℕ) (rows : List ℕ) (reading : Reading) (words out counts work : List ℕ) (r : Answer) (out′ counts′ work′ : List ℕ) : Type 0 where
-  pub answer : r ≡ decodeAnswer n k rows reading words (length out) (length counts) (length work)
-  pub either : ((c : Refusal) × (r ≡ Refused c) × (1 ≤ numberOf c) × (numberOf c ≤ 9) × (out′ ≡ out) × (counts′ ≡ counts) × (work′ ≡ work)) ⊎ (r ≡ Done)
-  pub codewords : out′ ≡ onDone r (map (wordOf n rows reading) words) out
-  pub distances : counts′ ≡ onDone r (map (countOf n rows reading) words) counts
-  pub leaders : work′ ≡ onDone r (leadersList n k rows) work
-  pub leader : r ≡ Done → (s : ℕ) → s < 2 ^ (n - k) → IsLeader n rows s (getD work′ s 0)
-  pub minimum : r ≡ Done → MinimumDistance n rows (dmin rows)
-  pub nearest : r ≡ Done → reading ≡ Nearest → (i : ℕ) → i < length words
-      → NearestRule ℕ (Codeword rows) distance (getD words i 0) (getD out′ i 0) (getD counts′ i 0)
-  pub within : r ≡ Done → (ρ : ℕ) → reading ≡ Within ρ → (i : ℕ) → i < length words
-      → RadiusRules ℕ (Codeword rows) distance (dmin rows) ρ (getD words i 0) (getD out′ i 0) (getD counts′ i 0) (getD counts′ i 0 ≡ 255)
-  pub clean : r ≡ Done → (i : ℕ) → i < length words → (getD counts′ i 0 ≡ 0) ↔ (decodedAs n rows reading (getD words i 0) ≡ Clean (getD words i 0))
+pub record Decoded (B : Batch) (before : Lent) (r : Answer) (after : Lent) : Type 0 where
+  pub answer : r ≡ decodeAnswer (B .n) (B .k) (B .rows) (B .reading) (B .words) (length (before .codewords)) (length (before .counts)) (length (before .work))
+  pub either : ((c : Refusal) × (r ≡ Refused c) × (1 ≤ numberOf c) × (numberOf c ≤ 9) × (after ≡ before)) ⊎ (r ≡ Done)
+  pub codewords : after .codewords ≡ onDone r (map (wordOf (B .n) (B .rows) (B .reading)) (B .words)) (before .codewords)
+  pub distances : after .counts ≡ onDone r (map (countOf (B .n) (B .rows) (B .reading)) (B .words)) (before .counts)
+  pub leaders : after .work ≡ onDone r (leadersList (B .n) (B .k) (B .rows)) (before .work)
+  pub leader : r ≡ Done → (s : ℕ) → s < 2 ^ (B .n - B .k) → IsLeader (B .n) (B .rows) s (getD (after .work) s 0)
+  pub minimum : r ≡ Done → MinimumDistance (B .n) (B .rows) (dmin (B .rows))
+  pub nearest : r ≡ Done → B .reading ≡ Nearest → (i : ℕ) → i < length (B .words)
+      → NearestRule ℕ (Codeword (B .rows)) distance (getD (B .words) i 0) (getD (after .codewords) i 0) (getD (after .counts) i 0)
+  pub within : r ≡ Done → (ρ : ℕ) → B .reading ≡ Within ρ → (i : ℕ) → i < length (B .words)
+      → RadiusRules ℕ (Codeword (B .rows)) distance (dmin (B .rows)) ρ (getD (B .words) i 0) (getD (after .codewords) i 0) (getD (after .counts) i 0)
+      (getD (after .counts) i 0 ≡ 255)
+  pub clean : r ≡ Done → (i : ℕ) → i < length (B .words)
+      → (getD (after .counts) i 0 ≡ 0) ↔ (decodedAs (B .n) (B .rows) (B .reading) (getD (B .words) i 0) ≡ Clean (getD (B .words) i 0))

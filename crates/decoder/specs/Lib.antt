@@ -1,3 +1,3 @@
-pub mod Decoded
 pub mod Causes
+pub mod Decoded
 pub mod Inner

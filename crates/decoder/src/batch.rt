@@ -1,71 +1,24 @@
 // Decode: a batch of received words, read as the nearest codewords or within a radius.
-use crate::causes::Measured;
-use crate::causes::batch_cause;
-use crate::causes::measured_cause;
-use leaders::build::leaders_of;
+use crate::causes::known_past;
+use leaders::leaders::fill_leaders;
 use outcomes::outcome::Reading;
 use outcomes::outcome::count_in;
 use outcomes::outcome::outcome_of;
 use outcomes::outcome::word_in;
 use parity::check::syndrome;
 use words::answer::Answer;
+use words::answer::Refusal;
 use words::limits::MAX_CHECKS;
 ghost use mathlib.Core.Path.{_≡_};
+ghost use mathlib.Core.Bool.{true};
 ghost use mathlib.Core.List.{map, _++_};
 ghost use Prim.Native.Nat.{ℕ, _≤_, _<_};
 ghost use lib.ListN.{length, drop};
 ghost use Rattle.coding.specs.Check.{syndrome};
 ghost use Rattle.coding.specs.Weight.{dmin};
 ghost use Rattle.words.specs.Refusal.{ifDone};
-ghost use Rattle.words.specs.declared.answer.Answer.the-variants.{Done};
-ghost use Rattle.decoder.specs.Causes.{decodeAnswer};
-ghost use Rattle.decoder.specs.Inner.SlotsBy.{wordBy, countBy};
 ghost use Rattle.decoder.specs.Decoded.{Decoded};
-
-// Each word is decoded with its leader; the later slots keep their values.
-fn decode_words(
-    checks: &[u32; MAX_CHECKS],
-    reading: Reading,
-    words: &[u32],
-    leaders: &[u32],
-    out: &mut [u32],
-    counts: &mut [u8],
-)
-    requires { ⌜ (length (now words) ≤ length (now out)) × (length (now words) ≤ length (now counts)) ⌝ }
-    requires { ⌜ ((w : ℕ) → syndrome (now checks) w < length (now leaders)) ⌝ }
-    ensures { λ _. ⌜ now (out .exit) ≡ map (wordBy reading (now (leaders .entry)) (now (checks .entry))) (now (words .entry)) ++ drop (length (now (words .entry))) (now (out .entry)) ⌝ }
-    ensures { λ _. ⌜ now (counts .exit) ≡ map (countBy reading (now (leaders .entry)) (now (checks .entry))) (now (words .entry)) ++ drop (length (now (words .entry))) (now (counts .entry)) ⌝ }
-{
-    let mut i: usize = 0;
-    while i < words.len() {
-        let w = words[i];
-        let s = syndrome(checks, w) as usize;
-        let o = outcome_of(reading, w, leaders[s]);
-        out[i] = word_in(o, w);
-        counts[i] = count_in(o);
-        i += 1;
-    }
-}
-
-// The leaders are built and the words decoded, past causes 1 to 9.
-fn decode_passed(
-    n: u32,
-    k: u32,
-    rows: &[u32],
-    reading: Reading,
-    words: &[u32],
-    out: &mut [u32],
-    counts: &mut [u8],
-    work: &mut [u32],
-)
-    requires { ⌜ decodeAnswer n k (now rows) reading (now words) (length (now out)) (length (now counts)) (length (now work)) ≡ Done ⌝ }
-    ensures { λ _. ⌜ Decoded n k (now (rows .entry)) reading (now (words .entry)) (now (out .entry)) (now (counts .entry)) (now (work .entry)) Done (now (out .exit)) (now (counts .exit)) (now (work .exit)) ⌝ }
-{
-    let l = leaders_of(n, k, rows, work);
-    let checks = l.checks;
-    let size = 1usize << (n - k);
-    decode_words(&checks, reading, words, &work[..size], out, counts);
-}
+ghost use Rattle.decoder.specs.Inner.SlotsBy.{wordBy, countBy};
 
 // Decodes the words: codewords and counts into the first two lists, the leaders into the third.
 pub fn decode(
@@ -78,23 +31,20 @@ pub fn decode(
     counts: &mut [u8],
     work: &mut [u32],
 ) -> Answer
-    ensures { λ r. ⌜ Decoded n k (now (rows .entry)) reading (now (words .entry)) (now (out .entry)) (now (counts .entry)) (now (work .entry)) r (now (out .exit)) (now (counts .exit)) (now (work .exit)) ⌝ }
+    ensures { λ r. ⌜ Decoded
+        (record { n = n; k = k; rows = now (rows .entry); reading = reading; words = now (words .entry) })
+        (record { codewords = now (out .entry); counts = now (counts .entry); work = now (work .entry) })
+        r
+        (record { codewords = now (out .exit); counts = now (counts .exit); work = now (work .exit) }) ⌝ }
 {
-    let a = batch_cause(
-        n,
-        k,
-        rows,
-        reading,
-        words,
-        out.len(),
-        counts.len(),
-        work.len(),
-    );
-    let Answer::Done = a else {
-        return a;
-    };
-    decode_passed(n, k, rows, reading, words, out, counts, work);
-    Answer::Done
+    let m = decode_by(false, n, k, rows, reading, words, out, counts, work);
+    m.answer
+}
+
+// An answer with the minimum distance beside it, 0 on a refusal.
+pub struct Measured {
+    pub answer: Answer,
+    pub dmin: u32,
 }
 
 // The same, with the minimum distance beside the answer; the codewords are walked once, in either reading.
@@ -108,26 +58,84 @@ pub fn decode_measured(
     counts: &mut [u8],
     work: &mut [u32],
 ) -> Measured
-    ensures { λ r. ⌜ Decoded n k (now (rows .entry)) reading (now (words .entry)) (now (out .entry)) (now (counts .entry)) (now (work .entry)) (r .answer) (now (out .exit)) (now (counts .exit)) (now (work .exit)) ⌝ }
+    ensures { λ r. ⌜ Decoded
+        (record { n = n; k = k; rows = now (rows .entry); reading = reading; words = now (words .entry) })
+        (record { codewords = now (out .entry); counts = now (counts .entry); work = now (work .entry) })
+        (r .answer)
+        (record { codewords = now (out .exit); counts = now (counts .exit); work = now (work .exit) }) ⌝ }
     ensures { λ r. ⌜ r .dmin ≡ ifDone (r .answer) (dmin (now (rows .entry))) 0 ⌝ }
 {
-    let m = measured_cause(
-        n,
-        k,
-        rows,
-        reading,
-        words,
-        out.len(),
-        counts.len(),
-        work.len(),
-    );
-    let a = m.answer;
+    decode_by(true, n, k, rows, reading, words, out, counts, work)
+}
+
+// A refusal without a distance.
+fn unmeasured(answer: Answer) -> Measured
+    ensures { λ r. ⌜ (r .answer ≡ answer) × (r .dmin ≡ 0) ⌝ }
+{
+    Measured { answer, dmin: 0 }
+}
+
+// Each word is decoded with its leader; the later slots keep their values.
+fn decode_words(
+    checks: &[u32; MAX_CHECKS],
+    reading: Reading,
+    words: &[u32],
+    leaders: &[u32],
+    out: &mut [u32],
+    counts: &mut [u8],
+)
+    requires { ⌜ (length (now words) ≤ length (now out)) × (length (now words) ≤ length (now counts)) ⌝ }
+    requires { ⌜ ((w : ℕ) → syndrome (now checks) w < length (now leaders)) ⌝ }
+    ensures { λ _. ⌜ now (out .exit)
+        ≡ map (wordBy reading (now (leaders .entry)) (now (checks .entry))) (now (words .entry))
+        ++ drop (length (now (words .entry))) (now (out .entry)) ⌝ }
+    ensures { λ _. ⌜ now (counts .exit)
+        ≡ map (countBy reading (now (leaders .entry)) (now (checks .entry))) (now (words .entry))
+        ++ drop (length (now (words .entry))) (now (counts .entry)) ⌝ }
+{
+    let mut i: usize = 0;
+    while i < words.len() {
+        let w = words[i];
+        let s = syndrome(checks, w) as usize;
+        let o = outcome_of(reading, w, leaders[s]);
+        out[i] = word_in(o, w);
+        counts[i] = count_in(o);
+        i += 1;
+    }
+}
+
+// Decode, with the minimum distance where it is measured.
+fn decode_by(
+    measure: bool,
+    n: u32,
+    k: u32,
+    rows: &[u32],
+    reading: Reading,
+    words: &[u32],
+    out: &mut [u32],
+    counts: &mut [u8],
+    work: &mut [u32],
+) -> Measured
+    ensures { λ r. ⌜ Decoded
+        (record { n = n; k = k; rows = now (rows .entry); reading = reading; words = now (words .entry) })
+        (record { codewords = now (out .entry); counts = now (counts .entry); work = now (work .entry) })
+        (r .answer)
+        (record { codewords = now (out .exit); counts = now (counts .exit); work = now (work .exit) }) ⌝ }
+    ensures { λ r. ⌜ (measure ≡ true → r .dmin ≡ ifDone (r .answer) (dmin (now (rows .entry))) 0) ⌝ }
+{
+    let c = known_past(measure, n, k, rows, reading, words, out.len(), counts.len());
+    let a = c.answer;
     let Answer::Done = a else {
-        return m;
+        return unmeasured(a);
     };
-    decode_passed(n, k, rows, reading, words, out, counts, work);
+    let checks = c.checks;
+    if !fill_leaders(&checks, n, n - k, work) {
+        return unmeasured(Answer::Refused(Refusal::ShortWork));
+    }
+    let size = 1usize << (n - k);
+    decode_words(&checks, reading, words, &work[..size], out, counts);
     Measured {
-        answer: a,
-        dmin: m.dmin,
+        answer: Answer::Done,
+        dmin: c.dmin,
     }
 }

@@ -19,11 +19,10 @@ use Rattle.coding.proofs.CheckLaws.{encode-place}
 use Rattle.coding.proofs.TraceLaws.{message-trace, trace-message}
 use Rattle.coding.proofs.WidthLaws.{inside-wide}
 use Rattle.words.specs.Limits.{maxChecks}
-use Rattle.words.specs.Refusal.{unless, andThen, onDone}
+use Rattle.words.specs.Refusal.{andThen, onDone}
 use Rattle.words.specs.Lists.{listAnswer}
-use Rattle.words.specs.declared.answer.Refusal.the-variants.{NoCodeword}
 use Rattle.words.specs.declared.answer.Answer.{Answer}
-use Rattle.words.specs.declared.answer.Answer.the-variants.{Done, Refused}
+use Rattle.words.specs.declared.answer.Answer.the-variants.{Done}
 use Rattle.words.proofs.WordListLaws.{list-in}
 use Rattle.words.proofs.AnswerLaws.{goes}
 use Rattle.words.specs.Accepted.{matrixAnswer, Accepted}

@@ -1,50 +1,67 @@
--- Laws of the list that is built for an accepted matrix: every syndrome has a leader, and the list is these. Assumes nothing.
+-- Laws of the list that is built: by any check rows the words fill it as their syndromes say, and by those of an accepted matrix it holds
+-- the leader of every syndrome. Assumes nothing.
 use mathlib.Core.Path.{_≡_, sym, ap, _∙_}
 use mathlib.Core.List.{List}
-use Prim.Native.Nat.{ℕ, suc, _-_, _^_, _<_}
+use Prim.Native.Nat.{ℕ, suc, _-_, _^_, _≤_, _<_}
 use native.Mathlib.Nat.{lt-of-lt-of-le}
 use native.Mathlib.Omega.{arith}
-use lib.ListN.{length, getD, length-replicate}
-use lib.Seq.{ext-getD}
+use lib.ListN.{length, getD, take, length-map, length-take, length-replicate}
+use lib.Seq.{ext-getD, take-at}
 use lib.Pow.{pow-mono}
 use Rattle.coding.specs.Lists.{padded}
 use Rattle.coding.specs.Matrix.{encode}
-use Rattle.coding.specs.Check.{checks, frees}
+use Rattle.coding.specs.Reduce.{reduce}
+use Rattle.coding.specs.Check.{check, checks, frees, syndrome}
 use Rattle.coding.specs.Leader.{syndromeOf, noLeader, leaderOf}
 use Rattle.coding.specs.Order.{order, fills, blanks}
+use Rattle.coding.proofs.MatrixLaws.{encode-lt}
+use Rattle.coding.proofs.CheckLaws.{syndrome-lt}
 use Rattle.coding.proofs.ListLaws.{length-tabulate, getD-tabulate}
 use Rattle.coding.proofs.BuildLaws.{all-more, built, fills-length, fills-same, order-below}
 use Rattle.words.specs.Limits.{maxChecks}
 use Rattle.words.specs.Accepted.{Accepted}
-use Rattle.words.proofs.CodeLaws.{frees-are, checks-pad}
-use Rattle.leaders.specs.Inner.Built.{columnsOf, builtList}
+use Rattle.words.proofs.CodeLaws.{frees-are}
+use Rattle.leaders.specs.Inner.Built.{columnsOf}
 use Rattle.leaders.specs.Leaders.{leadersList}
-use Rattle.leaders.proofs.TryLaws.{columns-encode}
+use Rattle.leaders.specs.LeadersBy.{filledBy}
+use Rattle.leaders.proofs.TryLaws.{columns-inside, columns-encode}
+
+-- ---- by any check rows
+
+-- every syndrome has an entry
+pub entries-below : (hs : List ℕ) (c w : ℕ) → encode (columnsOf (take c hs)) w < 2 ^ c
+entries-below hs c w =
+    encode-lt c (columnsOf (take c hs))
+    (columns-inside (take c hs) c (λ v. lt-of-lt-of-le (syndrome-lt (take c hs) v) (pow-mono (omega (arith, length-take c hs))))) w
+
+-- the sums of columns are the syndromes
+pub filled-columns : (hs : List ℕ) (n c : ℕ) → n ≤ 32 → fills (encode (columnsOf hs)) (blanks (2 ^ c)) (order n (suc c)) ≡ filledBy hs n c
+unfolding filledBy
+filled-columns hs n c h =
+    fills-same (encode (columnsOf hs)) (syndrome hs) (order n (suc c)) (blanks (2 ^ c))
+    (all-more (λ w. w < 2 ^ n) (λ w. encode (columnsOf hs) w ≡ syndrome hs w)
+    (λ w l. columns-encode hs w (lt-of-lt-of-le l (pow-mono {i = n} {j = 32} h))) (order n (suc c)) (order-below n (suc c)))
+
+-- ---- of an accepted matrix
 
 module _ (n k : ℕ) (rows : List ℕ) (A : Accepted n k rows) where
   checks-are : length (frees n rows) ≡ n - k
   checks-are = omega (arith, frees-are n k rows A)
 
-  -- ---- the build
-
   pub leaders-long : length (leadersList n k rows) ≡ 2 ^ (n - k)
   leaders-long = length-tabulate (leaderOf n rows) (2 ^ (n - k))
 
-  pub leaders-are : builtList (padded maxChecks (checks n rows)) n (n - k) ≡ leadersList n k rows
-  leaders-are = ext-getD 0 (builtList (padded maxChecks (checks n rows)) n (n - k)) (leadersList n k rows) (long ∙ sym leaders-long) (λ s h. entry s (rw long at h))
+  pub leaders-are : filledBy (take (n - k) (padded maxChecks (checks n rows))) n (n - k) ≡ leadersList n k rows
+  unfolding filledBy
+  leaders-are =
+      ap (λ (hs : List ℕ). filledBy hs n (n - k)) (take-at (checks n rows) _ (n - k) (length-map (frees n rows) (check (reduce n rows)) ∙ checks-are))
+      ∙ ext-getD 0 (fills (syndromeOf n rows) (blanks (2 ^ (n - k))) (order n (suc (n - k)))) (leadersList n k rows) (long ∙ sym leaders-long)
+      (λ s h. entry s (rw long at h))
     where
-      same : builtList (padded maxChecks (checks n rows)) n (n - k) ≡ fills (syndromeOf n rows) (blanks (2 ^ (n - k))) (order n (suc (n - k)))
-      same =
-          fills-same (encode (columnsOf (padded maxChecks (checks n rows)))) (syndromeOf n rows) (order n (suc (n - k))) (blanks (2 ^ (n - k)))
-          (all-more (λ w. w < 2 ^ n) (λ w. encode (columnsOf (padded maxChecks (checks n rows))) w ≡ syndromeOf n rows w)
-          (λ w l. columns-encode (padded maxChecks (checks n rows)) w (lt-of-lt-of-le l (pow-mono {i = n} {j = 32} (omega (arith, A .range .places)))) ∙ checks-pad n k rows A w)
-          (order n (suc (n - k))) (order-below n (suc (n - k))))
+      long : length (fills (syndromeOf n rows) (blanks (2 ^ (n - k))) (order n (suc (n - k)))) ≡ 2 ^ (n - k)
+      long = fills-length (syndromeOf n rows) (order n (suc (n - k))) (blanks (2 ^ (n - k))) ∙ length-replicate (2 ^ (n - k)) noLeader
 
-      long : length (builtList (padded maxChecks (checks n rows)) n (n - k)) ≡ 2 ^ (n - k)
-      long = ap length same ∙ fills-length (syndromeOf n rows) (order n (suc (n - k))) (blanks (2 ^ (n - k))) ∙ length-replicate (2 ^ (n - k)) noLeader
-
-      entry : (s : ℕ) → s < 2 ^ (n - k) → getD (builtList (padded maxChecks (checks n rows)) n (n - k)) s 0 ≡ getD (leadersList n k rows) s 0
+      entry : (s : ℕ) → s < 2 ^ (n - k) → getD (fills (syndromeOf n rows) (blanks (2 ^ (n - k))) (order n (suc (n - k)))) s 0 ≡ getD (leadersList n k rows) s 0
       entry s l =
-          ap (λ (x : List ℕ). getD x s 0) same
-          ∙ (rw checks-are at (built n rows (A .inside) (rw checks-are (omega (arith, A .range .checks))) s (rw checks-are l)))
+          (rw checks-are at (built n rows (A .inside) (rw checks-are (omega (arith, A .range .checks))) s (rw checks-are l)))
           ∙ sym (getD-tabulate (leaderOf n rows) (2 ^ (n - k)) s l)

@@ -15,7 +15,7 @@ use Rattle.words.specs.declared.answer.Answer.{Answer}
 use Rattle.words.specs.declared.answer.Answer.the-variants.{Done, Refused}
 use Rattle.words.specs.Accepted.{matrixAnswer}
 use Rattle.parity.specs.ParityChecks.{ParityChecksOf}
-use Rattle.leaders.specs.declared.build.Leaders.{Leaders}
+use Rattle.leaders.specs.declared.leaders.Leaders.{Leaders}
 
 -- cause 9: a working list shorter than 2 ^ (n - k)
 abbrev pub workAnswer : ℕ → ℕ → Answer

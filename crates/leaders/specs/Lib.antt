@@ -1,2 +1,3 @@
 pub mod Leaders
+pub mod LeadersBy
 pub mod Inner

@@ -1,33 +1,30 @@
-// Part 4: the leaders. The words are tried by rising weight, of equal weight by rising number, with the syndrome kept along by one
+// The list of the leaders is filled: the words are tried by rising weight, of equal weight by rising number, with the syndrome kept along by one
 // column a step; a word takes the entry of its syndrome where that is blank, and the build ends when none is.
-use parity::check::parity_checks;
 use parity::check::syndrome;
-use words::answer::Answer;
-use words::answer::Refusal;
 use words::limits::MAX_CHECKS;
 use words::limits::WIDTH;
 ghost use mathlib.Core.Path.{_≡_};
 ghost use Prim.Native.Nat.{ℕ, suc, _+_, _<_, _≤_, _^_};
-ghost use lib.ListN.{length};
-ghost use Rattle.coding.specs.Lists.{zeros};
+ghost use lib.ListN.{length, take};
 ghost use Rattle.coding.specs.Matrix.{encode};
-ghost use Rattle.coding.specs.Check.{syndrome};
 ghost use Rattle.coding.specs.Order.{words, order, fills, blanks};
-ghost use Rattle.words.specs.Limits.{maxChecks, width};
-ghost use Rattle.leaders.specs.Leaders.{LeadersOf};
-ghost use Rattle.leaders.specs.Inner.Built.{columnsOf, Trying, Tried, builtList};
+ghost use Rattle.words.specs.Limits.{width};
+ghost use Rattle.leaders.specs.LeadersBy.{filledBy};
+ghost use Rattle.leaders.specs.Inner.Built.{columnsOf, Trying, Tried};
 
 // The entry of a syndrome that has no leader yet.
 const BLANK: u32 = 4294967295;
 
-// Entry p is the syndrome of the word with a one at place p alone.
-fn columns(checks: &[u32; MAX_CHECKS]) -> [u32; WIDTH]
-    ensures { λ r. ⌜ r ≡ columnsOf (now (checks .entry)) ⌝ }
+// Entry p is the syndrome by the first c check rows of the word with a one at place p alone.
+fn columns(checks: &[u32; MAX_CHECKS], c: usize) -> [u32; WIDTH]
+    requires { ⌜ c < width ⌝ }
+    ensures { λ r. ⌜ r ≡ columnsOf (take c (now (checks .entry))) ⌝ }
 {
+    let mask = (1u32 << c) - 1;
     let mut cols = [0u32; WIDTH];
     let mut p: usize = 0;
     while p < WIDTH {
-        cols[p] = syndrome(checks, 1u32 << p);
+        cols[p] = syndrome(checks, 1u32 << p) & mask;
         p += 1;
     }
     cols
@@ -163,47 +160,11 @@ fn fill_list(list: &mut [u32], cols: &[u32; WIDTH], n: usize, c: usize)
     }
 }
 
-// The list becomes the leaders.
-fn build(checks: &[u32; MAX_CHECKS], n: usize, c: usize, list: &mut [u32])
-    requires { ⌜ (n ≤ width) × (c < width) × (length (now list) ≡ 2 ^ c) × ((w : ℕ) → syndrome (now checks) w < 2 ^ c) ⌝ }
-    ensures { λ _. ⌜ now (list .exit) ≡ builtList (now (checks .entry)) n c ⌝ }
+// The list that the words of n places and weight up to c fill, by the first c check rows.
+pub(crate) fn build(checks: &[u32; MAX_CHECKS], n: usize, c: usize, list: &mut [u32])
+    requires { ⌜ (n ≤ width) × (c < width) × (length (now list) ≡ 2 ^ c) ⌝ }
+    ensures { λ _. ⌜ now (list .exit) ≡ filledBy (take c (now (checks .entry))) n c ⌝ }
 {
-    let cols = columns(checks);
+    let cols = columns(checks, c);
     fill_list(list, &cols, n, c);
-}
-
-// The answer to a matrix and the length of a list; where the leaders stand in the list, the check rows that give their syndromes, else 0.
-pub struct Leaders {
-    pub answer: Answer,
-    pub checks: [u32; MAX_CHECKS],
-}
-
-fn refused(answer: Answer) -> Leaders
-    ensures { λ r. ⌜ (r .answer ≡ answer) × (r .checks ≡ zeros maxChecks) ⌝ }
-{
-    Leaders {
-        answer,
-        checks: [0u32; MAX_CHECKS],
-    }
-}
-
-// The first 2^(n - k) entries become the leaders by syndrome: causes 1 to 4 and 9.
-pub fn leaders_of(n: u32, k: u32, rows: &[u32], list: &mut [u32]) -> Leaders
-    ensures { λ r. ⌜ LeadersOf n k (now (rows .entry)) (now (list .entry)) r (now (list .exit)) ⌝ }
-{
-    let c = parity_checks(n, k, rows);
-    let a = c.answer;
-    let Answer::Done = a else {
-        return refused(a);
-    };
-    let size = 1usize << (n - k);
-    if list.len() < size {
-        return refused(Answer::Refused(Refusal::ShortWork));
-    }
-    let checks = c.rows;
-    build(&checks, n as usize, (n - k) as usize, &mut list[..size]);
-    Leaders {
-        answer: Answer::Done,
-        checks,
-    }
 }

@@ -1,2 +1,3 @@
 // Coset leaders: document 01, part 4.
-pub mod build;
+pub mod build; // the words tried one after the other
+pub mod leaders; // the leaders by check rows, and of a matrix

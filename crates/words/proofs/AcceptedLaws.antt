@@ -6,7 +6,7 @@ use Prim.Native.Nat.{ℕ, _<_}
 use native.Mathlib.Nat.{le-refl}
 use native.Mathlib.Omega.{arith}
 use lib.Dec.{eqb}
-use lib.ListN.{length, getD, take}
+use lib.ListN.{length, take}
 use borrow.Author.Tests.{eqb-false}
 use Rattle.coding.specs.Matrix.{Independent, Depends, dependsAt, firstDependent}
 use Rattle.coding.proofs.SearchLaws.{first-le}

@@ -1,13 +1,13 @@
 -- What the build of the leaders asks and leaves at each step.
 use mathlib.Core.Path.{_≡_}
 use mathlib.Core.List.{List, map}
-use Prim.Native.Nat.{ℕ, suc, _+_, _*_, _^_, _≤_, _<_}
+use Prim.Native.Nat.{ℕ, _+_, _*_, _^_, _≤_, _<_}
 use lib.ListN.{length}
 use Rattle.coding.specs.Lists.{tabulate}
 use Rattle.coding.specs.Word.{weight}
 use Rattle.coding.specs.Matrix.{encode}
 use Rattle.coding.specs.Check.{syndrome}
-use Rattle.coding.specs.Order.{words, order, fills, blanks}
+use Rattle.coding.specs.Order.{words, fills}
 use Rattle.coding.specs.Inner.Blanks.{blankCount}
 use Rattle.words.specs.Limits.{width}
 
@@ -32,7 +32,3 @@ pub record Trying (list cols : List ℕ) (m t prefix s blank : ℕ) : Type 0 whe
 pub record Tried (before cols : List ℕ) (m t prefix : ℕ) (after : List ℕ) (blank : ℕ) : Type 0 where
   pub filled : after ≡ fills (encode cols) before (map (λ w. prefix + w) (words m t))
   pub left : blank ≡ blankCount after
-
--- the list on which every word of n places and weight up to c has been tried
-abbrev pub builtList : List ℕ → ℕ → ℕ → List ℕ
-builtList checks n c = fills (encode (columnsOf checks)) (blanks (2 ^ c)) (order n (suc c))

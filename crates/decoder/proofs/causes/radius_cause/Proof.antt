@@ -1,26 +1,21 @@
--- `decoder::causes::radius_cause`: the minimum distance is that of the walk. Assumes nothing.
-use mathlib.Core.Path.{_≡_, ap, _∙_}
+-- `decoder::causes::radius_cause`: half of dmin - 1 is below the radius exactly when 2 r + 1 is above dmin. Assumes nothing.
 use Prim.Native.Nat.{_≤_}
-use Rattle.coding.specs.Weight.{dmin}
-use Rattle.words.proofs.AcceptedLaws.{in-accepted}
-use Rattle.decoder.specs.Causes.{radiusAnswer}
-use Rattle.decoder.proofs.CauseLaws.{measured-is}
 use borrow.Author.Needs.{needs}
+use Rattle.decoder.proofs.CauseLaws.{radius-large, radius-fits}
 use Rattle.decoder.proofs.causes.radius_cause.Statement.{statement}
 use Rattle.decoder.proofs.causes.radius_cause.Tie as tie
 
-measured : (c : tie.After-weights-of) → (c .weights-of .result .dmin ≡ dmin (c .before .before .before .before .args .rows .now)) × (1 ≤ c .weights-of .result .dmin)
-measured c =
-    let s = c .before .before .before .before in
-    measured-is (c .weights-of .ensures) (c .weights-of .ensures .answer ∙ in-accepted (s .args .n) (s .args .k) (s .args .rows .now) (s .pre))
+abbrev start : tie.After-known-told → tie.Start
+start c = c .before .before .before
 
-radius-test-requires : tie.Need-radius-test-requires
-radius-test-requires c κs = measured c .1
+positive : (c : tie.After-known-told) → 1 ≤ start c .args .d
+positive c = start c .pre _ (c .before .reading .given .1)
 
 returns-2 : tie.Need-returns-2
-returns-2 c = c .radius-test .ensures ∙ ap (radiusAnswer (c .before .before .before .before .before .args .reading)) (measured (c .before) .0)
+returns-2 c = rw (c .before .before .reading .given .1) (radius-large _ (start (c .before) .args .d) (positive (c .before)) (c .if1 .taken))
+
+returns-3 : tie.Need-returns-3
+returns-3 c = rw (c .before .before .reading .given .1) (radius-fits _ (start (c .before) .args .d) (positive (c .before)) (c .if1 .left))
 
 pub radius-cause-spec : {M : Type 1} → statement M
-radius-cause-spec =
-    tie.close
-    (tie.spec (λ c. search needs) (λ c. search needs) (λ c. search needs) (λ c κs. search needs) radius-test-requires returns-2)
+radius-cause-spec = tie.close (tie.spec (λ c. search needs) (λ c. search needs) (λ c. search needs) positive returns-2 returns-3)

@@ -1,5 +1,4 @@
 -- `encoder::encode::row_sums`: the first i slots are the row sums, the others are as they were. Assumes nothing.
-use mathlib.Core.Path.{_≡_}
 use mathlib.Core.List.{map}
 use Prim.Native.Nat.{_≤_, _-_}
 use lib.ListN.{length}

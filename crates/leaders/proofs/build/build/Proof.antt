@@ -1,36 +1,38 @@
 -- `leaders::build::build`: the columns give every syndrome an entry. Assumes nothing.
-use mathlib.Core.Path.{_≡_, ap, _∙_}
-use Prim.Native.Nat.{ℕ, suc, _^_}
-use lib.ListN.{length}
-use lib.Pow.{pow-pos, pow-lt}
+use mathlib.Core.Path.{_≡_, ap₂, _∙_}
 use mathlib.Core.List.{List}
+use Prim.Native.Nat.{ℕ, suc, _^_}
+use lib.ListN.{length, take}
+use lib.Pow.{pow-pos, pow-lt}
+use borrow.Author.Needs.{needs}
 use Rattle.coding.specs.Matrix.{encode}
 use Rattle.coding.specs.Order.{order, fills, blanks}
-use Rattle.coding.proofs.MatrixLaws.{encode-lt}
-use Rattle.leaders.specs.Inner.Built.{columnsOf}
-use Rattle.leaders.proofs.TryLaws.{columns-long, columns-inside}
-use borrow.Author.Needs.{needs}
+use Rattle.leaders.proofs.TryLaws.{columns-long}
+use Rattle.leaders.proofs.BuiltLaws.{entries-below, filled-columns}
 use Rattle.leaders.proofs.build.build.Statement.{statement}
 use Rattle.leaders.proofs.build.build.Tie as tie
 
+abbrev start : tie.After-columns → tie.Start
+start c = c .before .before
+
 fill-list-requires : tie.Need-fill-list-requires
 fill-list-requires c κs =
-    let s = c .before .before .before .before in
-    let checks = s .args .checks .now in
-    let e = c .before .before .columns .ensures in
+    let s = start (c .before .before) in
+    let hs = s .args .checks .now in
     let l : length (s .args .list .now) ≡ 2 ^ s .args .c = s .pre .2 in
-    rw (e, l) (
-      (columns-long checks, s .pre .0, s .pre .1, pow-pos (s .args .c), pow-lt (s .pre .1)),
-      encode-lt (s .args .c) (columnsOf checks) (columns-inside checks (s .args .c) (s .pre .3)),
+    rw (c .before .before .columns .ensures, l) (
+      (columns-long (take (s .args .c) hs), s .pre .0, s .pre .1, pow-pos (s .args .c), pow-lt (s .pre .1)),
+      entries-below hs (s .args .c),
     )
 
 returns : tie.Need-returns
 returns c =
     let f = c .before .before in
-    let s = c .before .before .before .before .before .before .before in
-    let e = f .before .before .before .columns .ensures in
-    f .fill-list .ensures ∙ ap (λ (m : ℕ). fills (encode (f .before .before .before .columns .result)) (blanks m) (order (s .args .n) (suc (s .args .c)))) (s .pre .2)
-    ∙ ap (λ (h : List ℕ). fills (encode h) (blanks (2 ^ s .args .c)) (order (s .args .n) (suc (s .args .c)))) e
+    let k = f .before .before .before in
+    let a = start k .args in
+    f .fill-list .ensures
+    ∙ ap₂ (λ (h : List ℕ) (m : ℕ). fills (encode h) (blanks m) (order (a .n) (suc (a .c)))) (k .columns .ensures) (start k .pre .2)
+    ∙ filled-columns (take (a .c) (a .checks .now)) (a .n) (a .c) (start k .pre .0)
 
 pub build-spec : {M : Type 1} → statement M
 build-spec = tie.close (tie.spec (λ c κs. search needs) fill-list-requires (λ c. search needs) returns)

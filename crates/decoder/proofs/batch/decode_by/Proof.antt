@@ -1,0 +1,146 @@
+-- `decoder::batch::decode_by`: causes 1 to 8, the leaders and with them cause 9, then the words. Assumes nothing.
+use mathlib.Core.Path.{_≡_, refl, sym, ap, _∙_}
+use mathlib.Core.List.{List, _++_}
+use mathlib.Core.Bool.{Bool, true, false, cond}
+use Prim.Native.Nat.{ℕ, _-_, _*_, _%_, _^_}
+use native.Mathlib.Omega.{arith}
+use lib.ListN.{drop}
+use borrow.Author.Tests.{not-true, not-false}
+use borrow.Author.Needs.{needs}
+use Rattle.coding.specs.Lists.{padded}
+use Rattle.coding.specs.Check.{checks}
+use Rattle.coding.proofs.MachineLaws.{shl-one}
+use Rattle.words.specs.Limits.{maxChecks}
+use Rattle.words.specs.Accepted.{Accepted}
+use Rattle.words.specs.declared.answer.Refusal.the-variants.{ShortWork}
+use Rattle.words.specs.declared.answer.Answer.the-variants.{Done, Refused}
+use Rattle.leaders.specs.Leaders.{leadersList}
+use Rattle.leaders.proofs.LeaderPromiseLaws.{work-told, list-kept}
+use Rattle.decoder.specs.Decoded.{Batch, Lent}
+use Rattle.decoder.proofs.CauseLaws.{no-dmin, accepted-past, at-eight, at-work}
+use Rattle.decoder.proofs.DecodePromiseLaws.{answerTo, decode-refused, words-fit, lent-long, work-long, syndromes-fit, decode-ends}
+use Rattle.decoder.proofs.batch.decode_by.Statement.{statement}
+use Rattle.decoder.proofs.batch.decode_by.Tie as tie
+
+abbrev start : tie.After-known-past → tie.Start
+start c = c .before .before .before .before .before .before
+
+abbrev batch : tie.Start → Batch
+batch s = record { n = s .args .n; k = s .args .k; rows = s .args .rows .now; reading = s .args .reading; words = s .args .words .now }
+
+abbrev lent : tie.Start → Lent
+lent s = record { codewords = s .args .out .now; counts = s .args .counts .now; work = s .args .work .now }
+
+-- ---- causes 1 to 8 have passed
+
+accepted : (c : tie.After-enum-told)
+    → let a = start (c .before .before) .args in
+    Accepted (a .n) (a .k) (a .rows .now)
+accepted c =
+    let k = c .before .before in
+    let a = start k .args in
+    accepted-past (a .n) (a .k) (a .rows .now) _ (sym (k .known-past .ensures .answer) ∙ c .enum-told .given .1)
+
+abbrev passed : tie.After-slice-known4 → tie.After-enum-told
+passed c = c .before .before .before .before .before .before
+
+abbrev begun : tie.After-slice-known4 → tie.Start
+begun c = start (passed c .before .before)
+
+-- cause 9 decides
+ends : (c : tie.After-slice-known4) (b : Bool) → c .before .before .fill-leaders .result ≡ b
+    → answerTo (batch (begun c)) (lent (begun c)) ≡ cond b Done (Refused ShortWork)
+ends c b e =
+    let t = passed c in
+    let a = begun c .args in
+    sym (at-work (a .n) (a .k) (a .rows .now) (a .reading) (a .words .now) _ _ _ (sym (t .before .before .known-past .ensures .answer) ∙ t .enum-told .given .1))
+    ∙ work-told (a .n) (a .k) (a .rows .now) (accepted t) (c .before .before .fill-leaders .ensures) b e
+
+returns : tie.Need-returns
+returns c =
+    let k = c .before .before .before in
+    let s = start k in
+    let a = s .args in
+    let u = c .unmeasured .ensures in
+    let r = c .before .enum-told2 .given .1 in
+    let e = u .0 ∙ r in (
+      decode-refused (batch s) (lent s) _ _ e
+          (e ∙ at-eight (a .n) (a .k) (a .rows .now) (a .reading) (a .words .now) _ _ _ _ (sym (k .known-past .ensures .answer) ∙ r)) _ refl,
+      λ _. u .1 ∙ no-dmin _ _ _ e,
+    )
+
+returns-2 : tie.Need-returns-2
+returns-2 c =
+    let w = c .before .before in
+    let s = begun w in
+    let u = c .unmeasured2 .ensures in
+    let no = not-true _ (c .before .if1 .taken) in (
+      decode-refused (batch s) (lent s) _ _ (u .0) (u .0 ∙ sym (ends w false no)) _
+          (ap (λ (l : List ℕ). record { codewords = s .args .out .now; counts = s .args .counts .now; work = l })
+          (list-kept (w .before .before .fill-leaders .ensures) no)),
+      λ _. u .1 ∙ no-dmin _ _ _ (u .0),
+    )
+
+-- ---- and cause 9
+
+done : (c : tie.Else1) → answerTo (batch (begun (c .before))) (lent (begun (c .before))) ≡ Done
+done c = ends (c .before) true (not-false _ (c .if1 .left))
+
+size-is : (c : tie.Else1)
+    → let a = begun (c .before) .args in
+    (1 * 2 ^ (a .n - a .k)) % 2 ^ 64 ≡ 2 ^ (a .n - a .k)
+size-is c = let a = begun (c .before) .args in shl-one (a .n - a .k) 64 (omega (arith, accepted (passed (c .before)) .range .checks))
+
+-- the check rows are those of the matrix
+rows-are : (c : tie.Else1)
+    → let a = begun (c .before) .args in
+    passed (c .before) .before .before .known-past .result .checks ≡ padded maxChecks (checks (a .n) (a .rows .now))
+rows-are c = let t = passed (c .before) in t .before .before .known-past .ensures .check-rows (t .enum-told .given .1)
+
+-- the working list begins with the leaders
+work-is : (c : tie.Else1)
+    → let a = begun (c .before) .args in
+    c .before .before .before .fill-leaders .last .1 .1 .1 .0 ≡ leadersList (a .n) (a .k) (a .rows .now) ++ drop (2 ^ (a .n - a .k)) (a .work .now)
+work-is c =
+    let t = passed (c .before) in
+    let a = begun (c .before) .args in
+    c .before .before .before .fill-leaders .ensures .of-matrix (a .k) (a .rows .now) (accepted t) refl
+    (rows-are c) (not-false _ (c .if1 .left))
+
+slice-reshare-prefix-decode-words : tie.Need-slice-reshare-prefix-decode-words
+slice-reshare-prefix-decode-words c =
+    let e = c .before in
+    let s = begun (e .before) in
+    rw (size-is e) (work-long (batch s) (lent s) (done e) _ _ (rows-are e) (work-is e))
+
+slice-aggregate-decode-words : tie.Need-slice-aggregate-decode-words
+slice-aggregate-decode-words c =
+    let e = c .before .before in
+    let s = begun (e .before) in
+    rw (size-is e) (sym (lent-long (batch s) (lent s) (done e) _ _ (rows-are e) (work-is e)))
+
+decode-words-requires : tie.Need-decode-words-requires
+decode-words-requires c κs =
+    let e = c .before .before .before .before in
+    let s = begun (e .before) in
+    rw (size-is e) (words-fit (batch s) (lent s) (done e), syndromes-fit (batch s) (lent s) (done e) _ _ (rows-are e) (work-is e))
+
+returns-3 : tie.Need-returns-3
+returns-3 c =
+    let d = c .before .before .before .before in
+    let e = d .before .before .before .before .before in
+    let t = passed (e .before) in
+    let s = begun (e .before) in (
+      decode-ends (batch s) (lent s) (done e) _ _ (rows-are e) (work-is e) _ _ (rw (size-is e) at (d .decode-words .ensures .0))
+          (rw (size-is e) at (d .decode-words .ensures .1)),
+      λ h. t .before .before .known-past .ensures .distance h (t .enum-told .given .1),
+    )
+
+pub decode-by-spec : {M : Type 1} → statement M
+decode-by-spec =
+    tie.close
+    (tie.spec (λ c κs. search needs) (λ c. search needs) (λ c. search needs) (λ c κs. search needs) returns
+    (λ c. omega (arith, accepted (c .before .before) .range .checks)) (λ c κs. search needs) (λ c κs. search needs) (λ c. search needs) returns-2
+    (λ c. omega (arith, accepted (passed (c .before)) .range .checks)) (λ c. search needs)
+    (λ c. omega (arith, accepted (passed (c .before)) .range .checks)) slice-reshare-prefix-decode-words slice-aggregate-decode-words
+    decode-words-requires (λ c. search needs) (λ c. search needs) (λ c. search needs) returns-3)
