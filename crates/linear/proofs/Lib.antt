@@ -1,2 +1,3 @@
 mod RowPackLaws
+mod RowClearLaws
 pub mod PivotTableLaws
