@@ -138,7 +138,8 @@ module _ {list cols : List ℕ} {m t prefix s blank : ℕ} (T : Trying list cols
         })
 
 pub tried-both : {list between after cols : List ℕ} {m t prefix left end : ℕ} → m ≤ 32 → 1 ≤ m → 1 ≤ t
-    → Tried list cols (m - 1) t prefix between left → Tried between cols (m - 1) (t - 1) (prefix + oneAt (m - 1)) after end → Tried list cols m t prefix after end
+    → Tried list cols (m - 1) t prefix between left
+    → Tried between cols (m - 1) (t - 1) (prefix + oneAt (m - 1)) after end → Tried list cols m t prefix after end
 tried-both {list} {between} {after} {cols} {m} {t} {prefix} places h k R S = record {
   filled = S .filled ∙ ap (λ (x : ℕ). fills (encode cols) between (tries (prefix + x) (m - 1) (t - 1))) (shl-one (m - 1) 32 (omega arith))
       ∙ ap (λ (l : List ℕ). fills (encode cols) l (tries (prefix + 2 ^ (m - 1)) (m - 1) (t - 1))) (R .filled)
