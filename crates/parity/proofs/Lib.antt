@@ -1,2 +1,3 @@
+mod JoinedLaws
 mod CheckPackLaws
 pub mod ParityLaws
