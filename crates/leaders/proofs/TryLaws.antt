@@ -162,8 +162,12 @@ units-start T = record { trying = T; upto = omega arith; long = refl; filled = r
 
 module _ {list₀ cols : List ℕ} {m prefix s blank : ℕ} {list : List ℕ} {left p : ℕ} (U : Units list₀ cols m prefix s blank list left p) where
   module _ (h : p < m) where
+    -- the entry that the word asks for, in the list at first and now
+    pub unit-slot : s ⊕ getD cols p 0 < length list₀
+    unit-slot = rw (place-syndrome (U .trying) h) (U .trying .entries (prefix + 2 ^ p))
+
     pub unit-entry : s ⊕ getD cols p 0 < length list
-    unit-entry = rw (place-syndrome (U .trying) h, U .long) (U .trying .entries (prefix + 2 ^ p))
+    unit-entry = rw (U .long) unit-slot
 
     next : fills (encode cols) list₀ (tries prefix (p + 1) 1) ≡ fill (encode cols) list (prefix + 2 ^ p)
     next =

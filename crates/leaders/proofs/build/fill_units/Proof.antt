@@ -1,9 +1,9 @@
 -- `leaders::build::fill_units`: the words prefix + 2 ^ i for the places i below p have been tried. Assumes nothing.
 use mathlib.Core.Logic.{⊎-elim}
 use Prim.Native.Nat.{_-_}
-use native.Mathlib.Nat.{lt-of-lt-of-le, le-of-lt, le-of-eq}
+use native.Mathlib.Nat.{lt-of-lt-of-le, le-of-lt}
 use borrow.Author.Needs.{needs, scaled-fits}
-use Rattle.leaders.proofs.TryLaws.{Units, units-start, place-fits, unit-entry, unit-left, unit-stored, unit-held, units-end, units-full}
+use Rattle.leaders.proofs.TryLaws.{Units, units-start, place-fits, unit-slot, unit-entry, unit-left, unit-stored, unit-held, units-end, units-full}
 use Rattle.leaders.proofs.build.fill_units.Statement.{statement}
 use Rattle.leaders.proofs.build.fill_units.Tie as tie
 
@@ -16,25 +16,19 @@ abbrev μ-loop : tie.MeasureT-loop
 abbrev turn : tie.Then1 Inv-loop μ-loop → tie.In-loop Inv-loop μ-loop
 turn c = c .before .before .before
 
+-- an entry of the list lies below 2 ^ 64, and so does its place in memory
 cast-x : tie.Need-cast-x Inv-loop μ-loop
 cast-x c =
-    let U = c .before .before .loop .inv in
-    let good = c .before .before .before .good in
-    record { fits = lt-of-lt-of-le (lt-of-lt-of-le (unit-entry U (c .before .loop-test .taken)) (le-of-eq (U .long))) (le-of-lt (good .0 .0)) }
+    let l = c .before .before in
+    record { fits = lt-of-lt-of-le (unit-slot (l .loop .inv) (c .before .loop-test .taken)) (le-of-lt (l .before .good .0 .0)) }
 
 mul-if1 : tie.Need-mul-if1 Inv-loop μ-loop
 mul-if1 c =
-    let U = c .before .before .loop .inv in
-    scaled-fits _ _ 4 (rw (U .long) at (unit-entry U (c .before .loop-test .taken))) (c .before .before .before .good .0 .1)
-
-add-list : tie.Need-add-list Inv-loop μ-loop
-add-list c = record { fits = place-fits (turn c .before .loop .inv .trying) (turn c .loop-test .taken) }
+    let l = c .before .before in
+    scaled-fits _ _ 4 (unit-slot (l .loop .inv) (c .before .loop-test .taken)) (l .before .good .0 .1)
 
 mul-list : tie.Need-mul-list Inv-loop μ-loop
-mul-list c =
-    let i = turn c in
-    let U = i .before .loop .inv in
-    scaled-fits _ _ 4 (rw (U .long) at (unit-entry U (i .loop-test .taken))) (i .before .before .good .0 .1)
+mul-list c = scaled-fits _ _ 4 (unit-slot (turn c .before .loop .inv) (turn c .loop-test .taken)) (turn c .before .before .good .0 .1)
 
 same-length : tie.Need-same-length Inv-loop μ-loop
 same-length c =
@@ -57,7 +51,8 @@ pub fill-units-spec : {M : Type 1} → statement M
 fill-units-spec =
     tie.close
     (tie.spec Inv-loop μ-loop (λ c. units-start (c .pre)) (λ c. search needs) (λ c. search needs) cast-x mul-if1
-    (λ c. unit-entry (c .before .before .before .loop .inv) (c .before .before .loop-test .taken)) (λ c. search needs) (λ c. search needs) add-list mul-list
+    (λ c. unit-entry (c .before .before .before .loop .inv) (c .before .before .loop-test .taken)) (λ c. search needs) (λ c. search needs)
+    (λ c. record { fits = place-fits (turn c .before .loop .inv .trying) (turn c .loop-test .taken) }) mul-list
     (λ c. unit-entry (turn c .before .loop .inv) (turn c .loop-test .taken))
     (λ c. unit-left (turn c .before .loop .inv) (turn c .loop-test .taken) (c .if1 .taken)) same-length returns (λ c. search needs)
     (λ c. search needs) loop-again (λ c. c .before .loop .inv .long) (λ c. units-end (c .before .loop .inv) (c .loop-test .left)))
