@@ -48,6 +48,7 @@ module _ {rows table messages : List ℕ} {i : ℕ} where
   }
 
   module _ {p x m : ℕ} (C : Clearing rows table messages i p x m) where
+    -- the table has the shape by place
     shape : ByPlace 32 table
     shape = table-shape 32 rows (C .before .fits) i (C .more) table (C .before .table-is)
 

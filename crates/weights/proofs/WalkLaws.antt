@@ -112,15 +112,20 @@ module _ (counts : List ℕ) where
   some-at : leastOf counts < 33 → getD counts (leastOf counts) 0 ≢ 0
   some-at h = eqb-false _ 0 (not-true _ (first-hit (counted counts) 32 (omega arith)))
 
--- the walk w goes on over the block; l is the least weight counted then
-module _ (block : List ℕ) (base : ℕ) {ws : List ℕ} (is : ws ≡ map (λ b. distance b base) block) (w : Walk) (held : w .least ≡ leastOf (w .counts))
-    {after : List ℕ} (T : Tallied ws (w .counts) after) {l : ℕ} (e : l ≡ leastOf after) where
+-- the walk w has gone on over the block: ws are its weights, after the counts and l the least weight counted then
+pub record Weighed (block : List ℕ) (base : ℕ) (w : Walk) (ws after : List ℕ) (l : ℕ) : Type 0 where
+  pub weights : ws ≡ map (λ b. distance b base) block
+  pub held : w .least ≡ leastOf (w .counts)
+  pub tallied : Tallied ws (w .counts) after
+  pub least : l ≡ leastOf after
+
+module _ {block : List ℕ} {base : ℕ} {w : Walk} {ws after : List ℕ} {l : ℕ} (W : Weighed block base w ws after l) where
   entry : (i : ℕ) → i < length block → getD ws i 0 ≡ distance (getD block i 0) base
-  entry i h = ap (λ (l : List ℕ). getD l i 0) is ∙ getD-map (λ b. distance b base) block i h
+  entry i h = ap (λ (l : List ℕ). getD l i 0) (W .weights) ∙ getD-map (λ b. distance b base) block i h
 
   grown : (j : ℕ) → getD after j 0 ≡ getD (w .counts) j 0 + count (λ i. eqb (distance (getD block i 0) base) j) (length block)
   grown j =
-      T .grown j ∙ ap (λ (n : ℕ). getD (w .counts) j 0 + count (λ i. eqb (getD ws i 0) j) n) (weights-long block base is)
+      W .tallied .grown j ∙ ap (λ (n : ℕ). getD (w .counts) j 0 + count (λ i. eqb (getD ws i 0) j) n) (weights-long block base (W .weights))
       ∙ ap (λ (n : ℕ). getD (w .counts) j 0 + n)
       (count-same (λ i. eqb (getD ws i 0) j) (λ i. eqb (distance (getD block i 0) base) j) (length block) (λ i h. ap (λ (x : ℕ). eqb x j) (entry i h)))
 
@@ -129,31 +134,31 @@ module _ (block : List ℕ) (base : ℕ) {ws : List ℕ} (is : ws ≡ map (λ b.
     pub fallen-at : at < length block
     fallen-at =
         let b = first-le (counted (w .counts)) 32 in
-        let none : getD (w .counts) l 0 ≡ 0 = rw e (none-below (w .counts) _ (omega arith)) in
-        let some : getD after l 0 ≢ 0 = rw e (some-at after (omega arith)) in
-        let (i, k, q) = count-found (λ i. eqb (getD ws i 0) l) (length ws) (omega (arith, T .grown l)) in
-        omega (arith, weights-long block base is, first-upto (λ i. eqb (getD ws i 0) l) (length ws) i k q)
+        let none : getD (w .counts) l 0 ≡ 0 = rw (W .least) (none-below (w .counts) _ (omega arith)) in
+        let some : getD after l 0 ≢ 0 = rw (W .least) (some-at after (omega arith)) in
+        let (i, k, q) = count-found (λ i. eqb (getD ws i 0) l) (length ws) (omega (arith, W .tallied .grown l)) in
+        omega (arith, weights-long block base (W .weights), first-upto (λ i. eqb (getD ws i 0) l) (length ws) i k q)
 
     weighs : distance (getD block at 0) base ≡ l
     weighs =
-        let k : first (λ i. eqb (getD ws i 0) l) (length ws) < length ws = omega (arith, fallen-at, weights-long block base is) in
+        let k : first (λ i. eqb (getD ws i 0) l) (length ws) < length ws = omega (arith, fallen-at, weights-long block base (W .weights)) in
         sym (entry at fallen-at) ∙ ap (λ (x : ℕ). getD ws x 0) is-at ∙ eqb-true _ _ (first-hit (λ i. eqb (getD ws i 0) l) (length ws) k)
 
     pub walk-fallen : BlockWalked block base w (record { counts = after; least = l; lightest = getD block at 0 ⊕ base })
-    walk-fallen = record { size = T .size; grown = grown; least = e; lightest = inr (at, fallen-at, refl, weighs) }
+    walk-fallen = record { size = W .tallied .size; grown = grown; least = W .least; lightest = inr (at, fallen-at, refl, weighs) }
 
   -- it is what it was
   pub walk-stayed : w .least ≤ l → BlockWalked block base w (record { counts = after; least = l; lightest = w .lightest })
-  walk-stayed h = record { size = T .size; grown = grown; least = e; lightest = inl (same (decLe l (w .least)), refl) }
+  walk-stayed h = record { size = W .tallied .size; grown = grown; least = W .least; lightest = inl (same (decLe l (w .least)), refl) }
     where
       -- a weight that was counted still is
       same : Dec (l ≤ w .least) → l ≡ w .least
       same (yes k) = omega arith
       same (no k) =
           let b = first-le (counted after) 32 in
-          let none : getD after (w .least) 0 ≡ 0 = rw held (none-below after _ (omega arith)) in
-          let some : getD (w .counts) (w .least) 0 ≢ 0 = rw held (some-at (w .counts) (omega arith)) in
-          absurd (omega (arith, T .grown (w .least), none, some))
+          let none : getD after (w .least) 0 ≡ 0 = rw (W .held) (none-below after _ (omega arith)) in
+          let some : getD (w .counts) (w .least) 0 ≢ 0 = rw (W .held) (some-at (w .counts) (omega arith)) in
+          absurd (omega (arith, W .tallied .grown (w .least), none, some))
 
 -- ---- the walk block by block
 

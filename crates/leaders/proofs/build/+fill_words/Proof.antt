@@ -25,6 +25,7 @@ abbrev fill-words-below : ℕ → In 2 fill-words-kinds.ps
 fill-words-below t =
     and 2 fill-words-kinds.ps (falls 2 fill-words-kinds.ps _<_ μ-fill-words t) fill-words.Pre
 
+-- what the calls ask and give
 abbrev claims : ℕ → fill-words-lts.Claims
 claims t = (fill-few-reads.Asked, fill-few-reads.Learnt, fill-words-below t, fill-words.Post)
 

@@ -11,6 +11,7 @@ one c = c .before .before
 abbrev start : tie.Else1 → tie.Start
 start c = c .before .before
 
+-- no single one, and fewer than three
 two : (c : tie.Else1) → start c .args .t ≡ 2
 two c = omega (arith, start c .pre .2 .some, start c .pre .1, c .if1 .left)
 

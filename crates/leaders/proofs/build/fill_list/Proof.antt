@@ -26,6 +26,7 @@ loop-holds K =
     let p = start K .pre in
     offered-start _ (K .before .before .clear .ensures) (p .0 .0) (p .0 .1) (p .0 .2) (p .1)
 
+-- the turn of the loop that the call stands in
 abbrev turn : tie.After-fill-words Inv-loop μ-loop → tie.In-loop Inv-loop μ-loop
 turn c = c .before .before
 

@@ -12,6 +12,7 @@ Inv-loop list₀ cols m prefix s blank left₀ p₀ list left p = Pairs list₀ 
 abbrev μ-loop : tie.MeasureT-loop
 μ-loop list₀ cols m prefix s blank left₀ p₀ list left p = m - p
 
+-- the turn of the loop that the call stands in
 abbrev turn : tie.After-fill-units Inv-loop μ-loop → tie.In-loop Inv-loop μ-loop
 turn c = c .before .before .before
 

@@ -13,6 +13,7 @@ Inv-loop list₀ cols m prefix s blank left₀ p₀ list left p = Units list₀ 
 abbrev μ-loop : tie.MeasureT-loop
 μ-loop list₀ cols m prefix s blank left₀ p₀ list left p = m - p
 
+-- the turn of the loop that a blank entry was found in
 abbrev turn : tie.Then1 Inv-loop μ-loop → tie.In-loop Inv-loop μ-loop
 turn c = c .before .before .before
 

@@ -10,6 +10,7 @@ use native.Mathlib.Omega.{arith}
 use Rattle.weights.proofs.walk.walk_all.Statement.{statement}
 use Rattle.weights.proofs.walk.walk_all.Tie as tie
 
+-- where the rows were cut in two
 abbrev cut : tie.After-weights → tie.After-block-rows
 cut c = c .before .before .before .before
 

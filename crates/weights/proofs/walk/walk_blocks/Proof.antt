@@ -15,12 +15,14 @@ Inv-loop front others block weights₀ end walk₀ h₀ weights walk h = (length
 abbrev μ-loop : tie.MeasureT-loop
 μ-loop front others block weights₀ end walk₀ h₀ weights walk h = end - h
 
+-- where the block was filled
 abbrev filled : tie.At-loop Inv-loop μ-loop → tie.After-fill-block Inv-loop μ-loop
 filled l = l .before .before .before
 
 abbrev start : tie.After-fill-block Inv-loop μ-loop → tie.Start Inv-loop μ-loop
 start f = f .before .before .before .before .before .before
 
+-- the turn of the loop that the call stands in
 abbrev turn : tie.After-walk-block Inv-loop μ-loop → tie.In-loop Inv-loop μ-loop
 turn w = w .before .before .before .before
 
