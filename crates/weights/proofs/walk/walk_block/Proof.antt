@@ -62,4 +62,5 @@ pub walk-block-spec : {M : Type 1} → statement M
 walk-block-spec =
     tie.close
     (tie.spec (λ c κs. search needs) tally-requires (λ c. search needs) (λ c κs. search needs) (λ c κs. search needs)
-    (λ c. record { fits = omega (arith, word-at c, start (from (least c)) .pre .1 .1 0) }) (λ c. word-at (c .before)) (λ c. search needs) returns (λ c. search needs) returns-2)
+    (λ c. record { fits = omega (arith, word-at c, start (from (least c)) .pre .1 .1 0) }) (λ c. word-at (c .before)) (λ c. search needs) returns
+    (λ c. search needs) returns-2)
