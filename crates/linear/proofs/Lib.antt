@@ -1,2 +1,4 @@
 mod RowPackLaws
+mod RowClearLaws
 pub mod PivotTableLaws
+mod EliminatedLaws

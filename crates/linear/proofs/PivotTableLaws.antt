@@ -4,7 +4,7 @@ use mathlib.Core.Path.{_≡_, sym, ap, _∙_}
 use mathlib.Core.List.{List, _++_, map}
 use Prim.Native.Nat.{ℕ, _+_, _-_, _≤_, _<_}
 use native.Mathlib.Omega.{arith}
-use lib.ListN.{length, getD, take, length-map}
+use lib.ListN.{length, take, length-map}
 use lib.Seq.{take-at, ext-getD}
 use Rattle.coding.specs.Lists.{zeros, padded}
 use Rattle.coding.specs.Matrix.{messageOf}
@@ -39,7 +39,7 @@ module _ (n k : ℕ) (rows : List ℕ) (A : Accepted n k rows) where
   beside-are M t =
       ext-getD 0 M (map (messageOf rows) (reduce 32 rows)) (t .size ∙ sym (length-map (reduce 32 rows) (messageOf rows)))
       (λ p h. let l : p < length (reduce 32 rows) = omega (arith, h, t .size) in
-      sym (getD-map (messageOf rows) (reduce 32 rows) p l ∙ trace-message rows (A .independent) (getD M p 0) (getD (reduce 32 rows) p 0) (traced-at rows M (reduce 32 rows) t p l)))
+      sym (getD-map (messageOf rows) (reduce 32 rows) p l ∙ trace-message rows (A .independent) _ _ (traced-at rows M (reduce 32 rows) t p l)))
 
   -- the table has each reduced row at its pivot, and 0 elsewhere: in 32 places as in n, the reduced form is the only one
   pub by-pivot-is : ByPivot 32 (reducedRows n rows) (pivots n rows) (reduce 32 rows)
@@ -89,7 +89,8 @@ reduced-rows n k rows r a e = record {
     form d = reducedRows-form n rows (accepted d .inside)
 
 -- on a refusal there is no message
-pub messages-refused : (n : ℕ) (rows : List ℕ) (a : Answer) (M : List ℕ) (c : Refusal) → a ≡ Refused c → M ≡ zeros 32 → MessagesByPivot n rows a M
+pub messages-refused : (n : ℕ) (rows : List ℕ) (a : Answer) (M : List ℕ) (c : Refusal) → a ≡ Refused c → M ≡ zeros 32
+    → MessagesByPivot n rows a M
 messages-refused n rows a M c e z = record { are = rw e z; by-pivot = λ d. refused-done (sym e ∙ d); traced = λ d. refused-done (sym e ∙ d) }
 
 -- ---- what the reduction promises, on success and on a refusal

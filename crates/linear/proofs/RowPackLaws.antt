@@ -4,27 +4,39 @@ use mathlib.Core.Path.{_≡_, ap}
 use mathlib.Core.Logic.{_≢_}
 use mathlib.Core.List.{List, []}
 use Prim.Native.Nat.{ℕ, _+_, _≤_, _<_}
+use native.Mathlib.Omega.{arith}
 use lib.ListN.{length, getD, drop, set, drop-of-length-le}
-use Rattle.coding.specs.Lists.{padded}
+use Rattle.coding.specs.Lists.{zeros, padded}
 use Rattle.coding.specs.Reduce.{rowsOf}
-use Rattle.coding.proofs.LoopLaws.{Packed, packed-room, packed-push, packed-end}
+use Rattle.coding.proofs.LoopLaws.{Packed, packed-start, packed-room, packed-push, packed-end}
 use Rattle.coding.proofs.CompactLaws.{rows-free, rows-pivot}
 use Rattle.words.specs.Limits.{maxRows}
 
--- ---- the rows themselves: j of them stand before place q
+-- the rows of the places below q, j of them, stand in front of zeros
+pub record Listed (table : List ℕ) (q : ℕ) (rows : List ℕ) (j : ℕ) : Type 0 where
+  pub within : q ≤ length table
+  pub few : length (rowsOf table) ≤ maxRows
+  pub packed : Packed maxRows rows j (rowsOf (drop q table)) (rowsOf table)
 
-module _ (table : List ℕ) (q : ℕ) (rows : List ℕ) (j : ℕ) (P : Packed maxRows rows j (rowsOf (drop q table)) (rowsOf table)) where
-  module _ (few : length (rowsOf table) ≤ maxRows) (h : q < length table) where
-    pub row-room : getD table q 0 ≢ 0 → j < maxRows
-    row-room ne = packed-room maxRows rows j _ _ (rowsOf table) (rw (rows-pivot table q h ne) at P) few
+pub list-start : (table : List ℕ) → length (rowsOf table) ≤ maxRows → Listed table 0 (zeros maxRows) 0
+list-start table f = record { within = omega arith; few = f; packed = packed-start maxRows (rowsOf table) }
 
-    pub row-push : getD table q 0 ≢ 0 → Packed maxRows (set rows j (getD table q 0)) (j + 1) (rowsOf (drop (q + 1) table)) (rowsOf table)
-    row-push ne = packed-push maxRows rows j (getD table q 0) _ (rowsOf table) (rw (rows-pivot table q h ne) at P) few
+module _ {table : List ℕ} {q : ℕ} {rows : List ℕ} {j : ℕ} (L : Listed table q rows j) where
+  module _ (h : q < length table) where
+    pub list-room : getD table q 0 ≢ 0 → j < maxRows
+    list-room ne = packed-room maxRows rows j _ _ (rowsOf table) (rw (rows-pivot table q h ne) at (L .packed)) (L .few)
 
-    pub row-skip : getD table q 0 ≡ 0 → Packed maxRows rows j (rowsOf (drop (q + 1) table)) (rowsOf table)
-    row-skip e = rw (rows-free table q h e) at P
+    pub list-push : getD table q 0 ≢ 0 → Listed table (q + 1) (set rows j (getD table q 0)) (j + 1)
+    list-push ne = record {
+      within = omega arith;
+      few = L .few;
+      packed = packed-push maxRows rows j (getD table q 0) _ (rowsOf table) (rw (rows-pivot table q h ne) at (L .packed)) (L .few);
+    }
 
-  pub row-end : length table ≤ q → j ≤ maxRows → rows ≡ padded maxRows (rowsOf table)
-  row-end h k =
+    pub list-skip : getD table q 0 ≡ 0 → Listed table (q + 1) rows j
+    list-skip e = record { within = omega arith; few = L .few; packed = rw (rows-free table q h e) at (L .packed) }
+
+  pub list-end : length table ≤ q → rows ≡ padded maxRows (rowsOf table)
+  list-end h =
       let e : rowsOf (drop q table) ≡ [] = ap rowsOf (drop-of-length-le table h) in
-      packed-end maxRows rows j (rowsOf table) (rw e at P) k
+      packed-end maxRows rows j (rowsOf table) (rw e at (L .packed)) (omega (arith, L .packed .count, L .few))

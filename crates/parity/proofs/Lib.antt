@@ -1,3 +1,4 @@
+mod JoinedLaws
 mod CheckPackLaws
 pub mod ParityLaws
 pub mod CodeOfLaws

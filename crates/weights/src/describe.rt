@@ -22,7 +22,8 @@ pub struct Description {
 }
 
 fn refused(answer: Answer) -> Description
-    ensures { λ r. ⌜ (r .answer ≡ answer) × (r .rows ≡ zeros maxRows) × (r .checks ≡ zeros maxChecks) × (r .dmin ≡ 0) × (r .counts ≡ zeros weightSlots) × (r .lightest ≡ 0) ⌝ }
+    ensures { λ r. ⌜ (r .answer ≡ answer) × (r .rows ≡ zeros maxRows) × (r .checks ≡ zeros maxChecks) × (r .dmin ≡ 0)
+        × (r .counts ≡ zeros weightSlots) × (r .lightest ≡ 0) ⌝ }
 {
     Description {
         answer,

@@ -5,7 +5,7 @@ use Prim.Native.Nat.{ℕ, _≤_, _-_}
 use lib.ListN.{length, getD, set}
 use Rattle.coding.specs.Word.{_⊕_}
 use Rattle.coding.specs.Inner.Beside.{wipes}
-use Rattle.coding.proofs.LoopLaws.{over, over-set, over-next, over-whole}
+use Rattle.coding.proofs.LoopLaws.{Over, over-start, over-step, over-full, over-next}
 use Rattle.coding.proofs.TraceLaws.{wipes-at, wipes-length}
 use borrow.Author.Needs.{needs}
 use native.Mathlib.Omega.{arith}
@@ -13,42 +13,41 @@ use Rattle.linear.proofs.reduce.put.Statement.{statement}
 use Rattle.linear.proofs.reduce.put.Tie as tie
 
 abbrev Inv-loop : tie.InvT-loop
-Inv-loop rows entries₀ q x p₀ entries p = (p ≤ 32) × (entries ≡ over (wipes q rows entries₀ x) entries₀ p)
+Inv-loop rows entries₀ q x p₀ entries p = (p ≤ 32) × Over (wipes q rows entries₀ x) entries₀ p entries
 
 abbrev μ-loop : tie.MeasureT-loop
 μ-loop rows entries₀ q x p₀ entries p = 32 - p
 
+abbrev at-loop : tie.After-selected Inv-loop μ-loop → tie.At-loop Inv-loop μ-loop
+at-loop c = c .before .before .before .before
+
+-- the wiped list has an entry for each place
+long : (s : tie.Start Inv-loop μ-loop) → length (wipes (s .args .q) (s .args .rows .now) (s .args .entries .now) (s .args .x)) ≡ 32
+long s = wipes-length (s .args .q) (s .args .rows .now) (s .args .entries .now) (s .args .x) (omega arith) ∙ s .pre .1
+
 loop-again : tie.Need-loop-again Inv-loop μ-loop
 loop-again c =
-    let l = c .before .before .before .before .loop in
-    let s = c .before .before .before .before .before in
+    let l = at-loop c in
+    let s = l .before in
     let a = s .args in
-    let W = wipes (a .q) (a .rows .now) (a .entries .now) (a .x) in
-    let same : length (a .entries .now) ≡ length (a .rows .now) = omega arith in
-    let long : length W ≡ 32 = wipes-length (a .q) (a .rows .now) (a .entries .now) (a .x) same ∙ s .pre .1 in
-    let next : getD (l .entries) (l .p) 0 ≡ getD (a .entries .now) (l .p) 0
-    = ap (λ (e : List ℕ). getD e (l .p) 0) (l .inv .1) ∙ over-next W (a .entries .now) (l .p) (omega arith) in
-    let v : getD (l .entries) (l .p) 0 ⊕ c .selected .result ≡ getD W (l .p) 0
-    = ap₂ _⊕_ next (c .selected .ensures) ∙ sym (wipes-at (a .q) (a .rows .now) (a .entries .now) (a .x) (l .p) same (omega arith)) in (
+    let O = l .loop .inv .1 in
+    let p = l .loop .p in
+    let size = long s in
+    let next = ap (λ (e : List ℕ). getD e p 0) (O .list) ∙ over-next _ (a .entries .now) p (omega arith) in (
       search needs,
-      ap (λ (e : List ℕ). set e (l .p) (getD (l .entries) (l .p) 0 ⊕ c .selected .result)) (l .inv .1)
-          ∙ over-set W (a .entries .now) (l .p) _ (omega arith) (omega arith) v,
+      over-step O _ (omega arith) (omega arith)
+          (ap₂ _⊕_ next (c .selected .ensures) ∙ sym (wipes-at (a .q) (a .rows .now) (a .entries .now) (a .x) p (omega arith) (omega arith))),
     )
 
 returns : tie.Need-returns Inv-loop μ-loop
 returns c =
-    let l = c .before .loop in
-    let s = c .before .before in
-    let a = s .args in
-    let same : length (a .entries .now) ≡ length (a .rows .now) = omega arith in
-    let long : length (wipes (a .q) (a .rows .now) (a .entries .now) (a .x)) ≡ length (a .entries .now)
-    = wipes-length (a .q) (a .rows .now) (a .entries .now) (a .x) same ∙ sym same in
-    ap (λ (e : List ℕ). set e (a .q) (a .x))
-    (l .inv .1 ∙ over-whole (wipes (a .q) (a .rows .now) (a .entries .now) (a .x)) (a .entries .now) (l .p) long (omega arith))
+    let a = c .before .before .args in
+    let size = long (c .before .before) in
+    ap (λ (e : List ℕ). set e (a .q) (a .x)) (over-full (c .before .loop .inv .1) (omega arith) (omega arith))
 
 pub put-spec : {M : Type 1} → statement M
 put-spec =
     tie.close
-    (tie.spec Inv-loop μ-loop (λ c. search needs) (λ c. search needs) (λ c. search needs) (λ c. search needs) (λ c. search needs)
+    (tie.spec Inv-loop μ-loop (λ c. (search needs, over-start _ _)) (λ c. search needs) (λ c. search needs) (λ c. search needs) (λ c. search needs)
     (λ c. search needs) (λ c. search needs) (λ c κs. search needs) (λ c. search needs) (λ c. search needs) (λ c. search needs)
     (λ c. search needs) loop-again (λ c. search needs) (λ c. search needs) returns)

@@ -1,6 +1,7 @@
 -- `parity::check::code_of`: the table of an accepted matrix gives the check rows of the definition. Assumes nothing.
-use mathlib.Core.Path.{refl, sym, ap, _∙_}
+use mathlib.Core.Path.{_≡_, refl, sym, ap, _∙_}
 use Rattle.coding.specs.Lists.{padded}
+use Rattle.coding.specs.Reduce.{reduce}
 use Rattle.words.specs.Limits.{maxChecks}
 use Rattle.words.specs.Accepted.{Accepted}
 use Rattle.words.proofs.AcceptedLaws.{accepted-in}
@@ -11,12 +12,23 @@ use native.Mathlib.Omega.{arith}
 use Rattle.parity.proofs.check.code_of.Statement.{statement}
 use Rattle.parity.proofs.check.code_of.Tie as tie
 
+-- the matrix is accepted
+module _ (t : tie.After-enum-told) where
+  abbrev start : tie.Start
+  start = t .before .before .before .before
+
+  accepted : Accepted (start .args .n) (start .args .k) (start .args .rows .now)
+  accepted = accepted-in _ _ _ (sym (t .before .before .reduce .ensures .reduced .answer) ∙ t .enum-told .given .1)
+
+  table-is : t .before .before .reduce .result .table ≡ reduce 32 (start .args .rows .now)
+  table-is = table-of (t .before .before .reduce .ensures) (t .enum-told .given .1)
+
 returns : tie.Need-returns
 returns c =
     let e = c .enum-told2 .given .1 in
-    let R = c .before .before .reduce .ensures in
-    let a = c .before .before .before .before .args in
-    let m = R .reduced .answer in
+    let r = c .before .before in
+    let a = r .before .before .args in
+    let m = r .reduce .ensures .reduced .answer in
     record {
       reduced = reduced-rows (a .n) (a .k) (a .rows .now) _ m (rw e refl);
       checks = parity-checks (a .n) (a .k) (a .rows .now) _ m (rw e refl);
@@ -26,28 +38,21 @@ returns c =
 check-rows-requires : tie.Need-check-rows-requires
 check-rows-requires c κs =
     let t = c .before .before in
-    let R = t .before .before .reduce in
-    let a = t .before .before .before .before .args in
-    let d = t .enum-told .given .1 in
-    let A : Accepted (a .n) (a .k) (a .rows .now) = accepted-in (a .n) (a .k) (a .rows .now) (sym (R .ensures .reduced .answer) ∙ d) in (
-      table-size (a .n) (a .k) (a .rows .now) A (R .result .table) (table-of (R .ensures) d),
-      omega (arith, A .range .places),
-      checks-few (a .n) (a .k) (a .rows .now) A (R .result .table) (table-of (R .ensures) d),
-    )
+    let A = accepted t in
+    (table-size _ _ _ A _ (table-is t), omega (arith, A .range .places), checks-few _ _ _ A _ (table-is t))
 
 returns-2 : tie.Need-returns-2
 returns-2 c =
     let q = c .before .before in
     let t = q .before .before .before in
-    let R = t .before .before .reduce in
-    let a = t .before .before .before .before .args in
+    let R = t .before .before .reduce .ensures in
+    let a = start t .args in
     let d = t .enum-told .given .1 in
-    let A : Accepted (a .n) (a .k) (a .rows .now) = accepted-in (a .n) (a .k) (a .rows .now) (sym (R .ensures .reduced .answer) ∙ d) in
-    let checks = q .check-rows .ensures ∙ ap (padded maxChecks) (checks-are (a .n) (a .k) (a .rows .now) A (R .result .table) (table-of (R .ensures) d)) in
     record {
-      reduced = rw d at (R .ensures .reduced);
-      checks = parity-checks (a .n) (a .k) (a .rows .now) _ (sym d ∙ R .ensures .reduced .answer) checks;
-      messages = rw d at (R .ensures .messages);
+      reduced = rw d at (R .reduced);
+      checks = parity-checks (a .n) (a .k) (a .rows .now) _ (sym d ∙ R .reduced .answer)
+          (q .check-rows .ensures ∙ ap (padded maxChecks) (checks-are _ _ _ (accepted t) _ (table-is t)));
+      messages = rw d at (R .messages);
     }
 
 pub code-of-spec : {M : Type 1} → statement M

@@ -16,8 +16,9 @@ first-four l w m e =
 
 returns : tie.Need-returns
 returns c =
-    let a = c .before .before .before .before .before .args in
-    c .first-parities .ensures ∙ first-four (a .checks .now) (a .w) (length (a .checks .now) - 4) (c .before .before .before .few-rows .ensures (c .before .before .if1 .taken))
+    let t = c .before .before in
+    let a = t .before .before .before .args in
+    c .first-parities .ensures ∙ first-four (a .checks .now) (a .w) (length (a .checks .now) - 4) (t .before .few-rows .ensures (t .if1 .taken))
 
 pub syndrome-spec : {M : Type 1} → statement M
 syndrome-spec = tie.close (tie.spec (λ c κs. search needs) (λ c κs. search needs) returns (λ c κs. search needs) (λ c. search needs))

@@ -8,10 +8,10 @@ use Rattle.weights.proofs.weights.weights_of.Tie as tie
 
 returns : tie.Need-returns
 returns c =
-    let r = c .before .before .accept in
-    let a = c .before .before .before .before .args in
+    let r = c .before .before in
+    let a = r .before .before .args in
     let e = c .enum-told2 .given .1 in
-    refused-weights (a .n) (a .k) (a .rows .now) _ _ e (sym (r .ensures .answer) ∙ e) (refl, refl, refl)
+    refused-weights (a .n) (a .k) (a .rows .now) _ _ e (sym (r .accept .ensures .answer) ∙ e) (refl, refl, refl)
 
 walk-all-requires : tie.Need-walk-all-requires
 walk-all-requires c κs =
@@ -21,9 +21,7 @@ walk-all-requires c κs =
 returns-2 : tie.Need-returns-2
 returns-2 c =
     let t = c .before .before in
-    let a = t .before .before .before .before .args in
-    let A = t .before .before .accept .ensures .accepted (t .enum-told .given .1) in
-    walked-weights (a .n) (a .k) (a .rows .now) A (c .before .walk-all .result) (c .before .walk-all .ensures)
+    walked-weights _ _ _ (t .before .before .accept .ensures .accepted (t .enum-told .given .1)) (c .before .walk-all .result) (c .before .walk-all .ensures)
 
 pub weights-of-spec : {M : Type 1} → statement M
 weights-of-spec =
