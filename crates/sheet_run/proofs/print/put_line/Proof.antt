@@ -1,42 +1,55 @@
 -- `sheet_run::print::put_line`: the parts of the line. Assumes nothing.
+use mathlib.Core.Path.{_≡_}
 use native.Mathlib.Omega.{arith}
+use lib.ListN.{length}
+use Rattle.sheet_run.specs.Output.{digitsOf}
 use Rattle.sheet_run.proofs.AppendLaws.{appends-length, appends-as, then}
 use Rattle.sheet_run.proofs.LineLaws.{length-digits, slot-parts}
 use borrow.Author.Needs.{needs}
 use Rattle.sheet_run.proofs.print.put_line.Statement.{statement}
 use Rattle.sheet_run.proofs.print.put_line.Tie as tie
 
+abbrev ending : tie.After-put-arg2 → tie.After-put-ending
+ending c = c .before .before .before
+
+abbrev blank : tie.After-put-ending-arg → tie.After-put
+blank c = c .before .before .before
+
+abbrev digits : tie.After-put-arg → tie.After-put-digits
+digits c = c .before .before .before
+
+abbrev start : tie.After-put-digits → tie.Start
+start c = c .before .before .before
+
+long : (c : tie.After-put-digits) → length (digitsOf (start c .args .n) (start c .args .c)) ≡ start c .args .n
+long c = length-digits (start c .args .n) (start c .args .c)
+
 put-requires : tie.Need-put-requires
-put-requires c κs =
-    let s = c .before .before .before .before .before .before in
-    let A = c .before .before .before .put-digits .ensures in
-    omega (arith, s .pre, A .ends, appends-length A, length-digits (s .args .n) (s .args .c))
+put-requires c κs = let d = digits c in omega (arith, appends-length (d .put-digits .ensures), long d)
 
 put-ending-requires : tie.Need-put-ending-requires
 put-ending-requires c κs =
-    let s = c .before .before .before .before .before .before .before .before .before .before in
-    let A = c .before .before .before .before .before .before .before .put-digits .ensures in
-    let B = c .before .before .before .put .ensures in
-    omega (arith, s .pre, A .ends, appends-length A, B .ends, appends-length B, length-digits (s .args .n) (s .args .c))
+    let b = blank c in
+    let d = digits (b .before) in
+    omega (arith, appends-length (then (d .put-digits .ensures) (b .put .ensures)), long d)
 
 put-requires-2 : tie.Need-put-requires-2
 put-requires-2 c κs =
-    let s = c .before .before .before .before .before .before .before .before .before .before .before .before .before .before in
-    let A = c .before .before .before .before .before .before .before .before .before .before .before .put-digits .ensures in
-    let B = c .before .before .before .before .before .before .before .put .ensures in
-    let C = c .before .before .before .put-ending .ensures in
-    omega (arith, s .pre, A .ends, appends-length A, B .ends, appends-length B, appends-length (C .0), C .1, length-digits (s .args .n) (s .args .c))
+    let e = ending c in
+    let b = blank (e .before) in
+    let d = digits (b .before) in
+    omega (arith, appends-length (then (then (d .put-digits .ensures) (b .put .ensures)) (e .put-ending .ensures .0)), long d)
 
 returns : tie.Need-returns
 returns c =
-    let s = c .before .before .before .before .before .before .before .before .before .before .before .before .before .before .before .before .before in
-    let a = s .args in
-    let A = c .before .before .before .before .before .before .before .before .before .before .before .before .before .before .put-digits .ensures in
-    let B = c .before .before .before .before .before .before .before .before .before .before .put .ensures in
-    let C = c .before .before .before .before .before .before .put-ending .ensures in
-    let D = c .before .before .put2 .ensures in (
-      appends-as (then (then (then A B) (C .0)) D) _ (slot-parts (a .n) (a .c) (a .count)),
-      omega (arith, s .pre, A .ends, B .ends, C .1, D .ends, length-digits (a .n) (a .c)),
+    let p = c .before .before in
+    let e = ending (p .before) in
+    let b = blank (e .before) in
+    let d = digits (b .before) in
+    let a = start d .args in (
+      appends-as (then (then (then (d .put-digits .ensures) (b .put .ensures)) (e .put-ending .ensures .0)) (p .put2 .ensures)) _
+          (slot-parts (a .n) (a .c) (a .count)),
+      omega (arith, long d),
     )
 
 pub put-line-spec : {M : Type 1} → statement M
