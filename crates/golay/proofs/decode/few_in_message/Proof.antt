@@ -4,7 +4,7 @@ use mathlib.Core.List.{List}
 use Prim.Native.Nat.{ℕ, _+_, _<_}
 use native.Mathlib.Omega.{arith}
 use lib.ListN.{getD}
-use Rattle.coding.specs.Word.{_⊕_, weight}
+use Rattle.coding.specs.Word.{_⊕_}
 use Rattle.coding.proofs.MachineLaws.{shl-one}
 use Rattle.golay_code.specs.Golay.{golayChecks}
 use Rattle.golay_code.proofs.GolayLaws.{checkWords, checks-are}
@@ -12,16 +12,6 @@ use Rattle.golay.proofs.PatternLaws.{few-found, check-pattern, near-hit
 use borrow.Author.Needs.{needs}
 use Rattle.golay.proofs.decode.few_in_message.Statement.{statement}
 use Rattle.golay.proofs.decode.few_in_message.Tie as tie
-
-returns : tie.Need-returns
-returns c =
-    let s = c .before .before .args .s in
-    few-found s s (check-pattern s (c .before .before .pre) (omega (arith, c .before .weight .ensures, c .if1 .taken)))
-
-returns-2 : tie.Need-returns-2
-returns-2 c =
-    let w = c .before .before .before in
-    few-far (w .before .args .s) (c .before .near-row .result) (omega (arith, w .weight .ensures, c .before .before .if1 .left)) (c .before .near-row .ensures) (c .if2 .taken)
 
 returns-3 : tie.Need-returns-3
 unfolding checkWords
@@ -38,5 +28,6 @@ returns-3 c =
 pub few-in-message-spec : {M : Type 1} → statement M
 few-in-message-spec =
     tie.close
-    (tie.spec (λ c κs. search needs) returns (λ c κs. search needs) returns-2 (λ c. search needs) (λ c. search needs)
+    (tie.spec (λ c κs. search needs) (λ c. few-found _ _ (check-pattern _ (c .before .before .pre) (omega arith))) (λ c κs. search needs)
+    (λ c. few-far _ _ (omega arith) (c .before .near-row .ensures) (c .if2 .taken)) (λ c. search needs) (λ c. search needs)
     (λ c. search needs) (λ c. search needs) (λ c. search needs) (λ c κs. search needs) returns-3)
