@@ -40,7 +40,7 @@ add-n-2 c =
     let s = c .before .before .before .args .s in
     let i : l .i < 64 = c .before .loop-test .taken in
     let z : numberBelow (hit s) (l .i) ≡ 0 = number-none (hit s) (l .i) (none-before s (l .i) i (c .if1 .taken)) in
-    record { fits = omega (arith, l .inv .1) }
+    record { fits = omega arith }
 
 loop-again : tie.Need-loop-again Inv-loop μ-loop
 unfolding columns
@@ -62,7 +62,7 @@ returns : tie.Need-returns Inv-loop μ-loop
 returns c =
     let l = c .before .loop in
     let s = c .before .before .args .s in
-    let e : l .i ≡ 64 = omega (arith, c .loop-test .left, l .inv .0) in
+    let e : l .i ≡ 64 = omega arith in
     l .inv .1 ∙ ap (numberBelow (hit s)) e ∙ ap (λ (m : ℕ). cond (ltb (first (hit s) m) 64) (suc (first (hit s) m)) 0) (sym columns-length)
 
 pub numbered-spec : {M : Type 1} → statement M
