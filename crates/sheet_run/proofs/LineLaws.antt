@@ -1,5 +1,5 @@
 -- Laws of the lines: the parts that the writers put, one after the other, are the line. Assumes nothing.
-use mathlib.Core.Path.{_≡_, refl, sym, ap, ap₂, _∙_}
+use mathlib.Core.Path.{_≡_, sym, ap, ap₂, _∙_}
 use mathlib.Core.List.{List, [], _∷_, _++_, append-assoc, append-nil}
 use Prim.Native.Nat.{ℕ, zero, suc, _+_, _-_, _/_, _<_}
 use native.Mathlib.Nat.{le-of-suc-le-suc}
@@ -50,10 +50,6 @@ slot-lines-suc n (suc i) (c ∷ cs) (d ∷ ds) h k =
 pub slot-lines-more : (n i : ℕ) (cs ds : List ℕ) → i < length cs → i < length ds
     → slotLines n (take i cs) (take i ds) ++ slotLine n (getD cs i 0) (getD ds i 0) ≡ slotLines n (take (i + 1) cs) (take (i + 1) ds)
 slot-lines-more n i cs ds h k = rw add-one (slot-lines-suc n i cs ds h k)
-
-pub slot-lines-none : (n : ℕ) (cs ds : List ℕ) → [] ≡ slotLines n (take 0 cs) (take 0 ds)
-unfolding slotLines
-slot-lines-none n cs ds = refl
 
 pub slot-lines-all : (n i : ℕ) (cs ds : List ℕ) → i ≡ length cs → i ≡ length ds → slotLines n (take i cs) (take i ds) ≡ slotLines n cs ds
 slot-lines-all n i cs ds e f =

@@ -1,13 +1,10 @@
 -- `golay::decode::few_in_message`: the check places alone, or a near row, or neither. Assumes nothing.
-use mathlib.Core.Path.{_≡_, sym, ap, ap₂, _∙_}
-use mathlib.Core.List.{List}
+use mathlib.Core.Path.{ap, ap₂, _∙_}
 use Prim.Native.Nat.{ℕ, _+_, _<_}
 use native.Mathlib.Omega.{arith}
-use lib.ListN.{getD}
 use Rattle.coding.specs.Word.{_⊕_}
 use Rattle.coding.proofs.MachineLaws.{shl-one}
-use Rattle.golay_code.specs.Golay.{golayChecks}
-use Rattle.golay_code.proofs.GolayLaws.{checkWords, checks-are}
+use Rattle.golay_code.proofs.GolayLaws.{checkWords, check-word}
 use Rattle.golay.proofs.PatternLaws.{few-found, check-pattern, near-hit, row-pattern, few-far}
 use borrow.Author.Needs.{needs}
 use Rattle.golay.proofs.decode.few_in_message.Statement.{statement}
@@ -20,10 +17,9 @@ returns-3 c =
     let s = n .before .before .before .args .s in
     let i = n .near-row .result in
     let less : i < 12 = c .before .if2 .left in
-    let row : c .sum .result ≡ s ⊕ getD golayChecks i 0
-    = c .sum .ensures ∙ ap (λ (l : List ℕ). s ⊕ getD l i 0) (sym checks-are) in
     few-found s _
-    (row-pattern s i _ (n .before .before .before .pre) less (near-hit s i (n .near-row .ensures) less) (ap₂ _⊕_ (shl-one (12 + i) 32 (omega arith)) row))
+    (row-pattern s i _ (n .before .before .before .pre) less (near-hit s i (n .near-row .ensures) less)
+    (ap₂ _⊕_ (shl-one (12 + i) 32 (omega arith)) (c .sum .ensures ∙ ap (λ (x : ℕ). s ⊕ x) (check-word i))))
 
 pub few-in-message-spec : {M : Type 1} → statement M
 few-in-message-spec =

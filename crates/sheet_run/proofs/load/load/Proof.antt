@@ -1,5 +1,5 @@
 -- `sheet_run::load::load`: the first i words are copied, the later slots are as they were. Assumes nothing.
-use Prim.Native.Nat.{_+_, _-_, _*_, _≤_}
+use Prim.Native.Nat.{ℕ, _+_, _-_, _*_, _≤_}
 use native.Mathlib.Omega.{arith}
 use borrow.Author.Needs.{needs}
 use Rattle.coding.proofs.LoopLaws.{Over, over-start, over-tabulate-step, over-tabulate-end}
@@ -16,25 +16,21 @@ abbrev μ-loop : tie.MeasureT-loop
 abbrev start : tie.At-loop Inv-loop μ-loop → tie.Start Inv-loop μ-loop
 start l = l .before .before .before .before
 
+-- the words from the position on
+abbrev word : tie.Start Inv-loop μ-loop → ℕ → ℕ
+word s j = wordAt (s .args .bytes .now) (s .args .from + 4 * j)
+
 loop-again : tie.Need-loop-again Inv-loop μ-loop
 unfolding wordsAt
 loop-again c =
     let l = c .before .before in
-    let a = start l .args in (
-      omega arith,
-      over-tabulate-step (λ j. wordAt (a .bytes .now) (a .from + 4 * j)) _ (l .loop .inv .1) _ (c .before .loop-test .taken) (omega arith)
-          (c .word-at .ensures),
-    )
+    (omega arith, over-tabulate-step (word (start l)) _ (l .loop .inv .1) _ (c .before .loop-test .taken) (omega arith) (c .word-at .ensures))
 
 returns : tie.Need-returns Inv-loop μ-loop
 unfolding wordsAt
 returns c =
-    let a = start (c .before) .args in
     let m = c .before .before .smaller in
-    record {
-      copied = m .ensures;
-      list = over-tabulate-end (λ j. wordAt (a .bytes .now) (a .from + 4 * j)) (m .result) (c .before .loop .inv .1) (omega arith);
-    }
+    record { copied = m .ensures; list = over-tabulate-end (word (start (c .before))) (m .result) (c .before .loop .inv .1) (omega arith) }
 
 pub load-spec : {M : Type 1} → statement M
 load-spec =

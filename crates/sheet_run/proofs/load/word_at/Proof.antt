@@ -15,11 +15,8 @@ four h at = (h at, h (at + 1), h (at + 2), h (at + 3))
 abbrev position : tie.After-shared-slice-known4 → ℕ
 position c = c .before .before .before .before .args .at
 
-returns : tie.Need-returns
-unfolding wordAt
-returns c = refl
-
 pub word-at-spec : {M : Type 1} → statement M
+unfolding wordAt
 word-at-spec =
     tie.close
     (tie.spec (λ c. search needs) (λ c. omega (arith, four (c .shared-slice-known .given) (c .before .args .at))) (λ c. search needs)
@@ -31,4 +28,4 @@ word-at-spec =
     (λ c. omega (arith, four (c .shared-slice-known3 .given) (c .before .before .before .args .at))) (λ c. search needs)
     (λ c. search needs) (λ c. omega (arith, four (c .shared-slice-known4 .given) (position c)))
     (λ c. omega (arith, four (c .shared-slice-known4 .given) (position c)))
-    (λ c. omega (arith, four (c .shared-slice-known4 .given) (position c))) returns)
+    (λ c. omega (arith, four (c .shared-slice-known4 .given) (position c))) (λ c. refl))

@@ -1,8 +1,9 @@
 -- `sheet_run::print::put_digits`: the first p digits are put. Assumes nothing.
-use mathlib.Core.Path.{sym, ap, _∙_}
+use mathlib.Core.Path.{_≡_, sym, ap, _∙_}
 use Prim.Native.Nat.{_-_, _/_, _^_}
 use native.Mathlib.Omega.{arith}
 use borrow.Author.Needs.{needs}
+use lib.ListN.{length}
 use lib.Bits.{and-mask, mask-lt}
 use Rattle.sheet_run.specs.Output.{digitsOf}
 use Rattle.sheet_run.specs.Decimal.{digit}
@@ -17,26 +18,23 @@ Inv-loop out₀ at n w p₀ out p = Putting out₀ at (digitsOf n w) p out
 abbrev μ-loop : tie.MeasureT-loop
 μ-loop out₀ at n w p₀ out p = n - p
 
-loop-holds : tie.Need-loop-holds Inv-loop μ-loop
-loop-holds c = putting-start _ _ _ (rw (length-digits (c .args .n) (c .args .w)) (c .pre .1))
+-- there are n digits
+long : (s : tie.Start Inv-loop μ-loop) → length (digitsOf (s .args .n) (s .args .w)) ≡ s .args .n
+long s = length-digits (s .args .n) (s .args .w)
 
 loop-again : tie.Need-loop-again Inv-loop μ-loop
 loop-again c =
     let l = c .before .loop in
     let a = c .before .before .args in
-    putting-step (l .inv) _ (rw (length-digits (a .n) (a .w)) (c .loop-test .taken))
+    putting-step (l .inv) _ (rw (long (c .before .before)) (c .loop-test .taken))
     (ap digit (and-mask (a .w / 2 ^ l .p) 1) ∙ sym (digit-of (a .n) (a .w) (l .p) (c .loop-test .taken)))
-
-returns : tie.Need-returns Inv-loop μ-loop
-returns c =
-    let a = c .before .before .args in
-    putting-end (c .before .loop .inv) (rw (length-digits (a .n) (a .w)) (c .loop-test .left))
 
 pub put-digits-spec : {M : Type 1} → statement M
 put-digits-spec =
     tie.close
-    (tie.spec Inv-loop μ-loop loop-holds (λ c. search needs) (λ c. search needs)
+    (tie.spec Inv-loop μ-loop (λ c. putting-start _ _ _ (rw (long c) (c .pre .1))) (λ c. search needs) (λ c. search needs)
     (λ c. omega (arith, mask-lt (c .before .before .args .w / 2 ^ c .before .loop .p) 1))
     (λ c. omega (arith, mask-lt (c .before .before .args .w / 2 ^ c .before .loop .p) 1))
-    (λ c. search needs) (λ c. omega (arith, length-digits (c .before .before .args .n) (c .before .before .args .w)))
-    (λ c. search needs) (λ c. search needs) loop-again (λ c. search needs) (λ c. search needs) returns)
+    (λ c. search needs) (λ c. omega (arith, long (c .before .before))) (λ c. search needs) (λ c. search needs) loop-again
+    (λ c. search needs) (λ c. search needs)
+    (λ c. putting-end (c .before .loop .inv) (rw (long (c .before .before)) (c .loop-test .left))))

@@ -6,7 +6,7 @@ use lib.ListN.{length, take}
 use Rattle.sheet_run.specs.Inner.Appended.{Appends}
 use Rattle.sheet_run.specs.Inner.Slots.{slotLines}
 use Rattle.sheet_run.proofs.AppendLaws.{appends-length, appends-as, appends-none, then}
-use Rattle.sheet_run.proofs.LineLaws.{slot-lines-none, slot-lines-more, slot-lines-all}
+use Rattle.sheet_run.proofs.LineLaws.{slot-lines-more, slot-lines-all}
 use Rattle.sheet_run.proofs.print.put_lines.Statement.{statement}
 use Rattle.sheet_run.proofs.print.put_lines.Tie as tie
 
@@ -24,13 +24,8 @@ abbrev at-loop : tie.After-shared-slice-known4 Inv-loop μ-loop → tie.At-loop 
 at-loop c = c .before .before .before .before
 
 loop-holds : tie.Need-loop-holds Inv-loop μ-loop
-loop-holds c =
-    let s = c .before .before .before in
-    let a = s .args in (
-      search needs,
-      omega arith,
-      appends-as (appends-none (a .out .now) (a .at) (omega (arith, s .pre))) _ (slot-lines-none (a .n) (a .codewords .now) (a .counts .now)),
-    )
+unfolding slotLines
+loop-holds c = (search needs, omega arith, appends-none _ _ (omega arith))
 
 put-line-requires : tie.Need-put-line-requires Inv-loop μ-loop
 put-line-requires c κs = let l = at-loop c in (start l .pre .0, omega (arith, appends-length (l .loop .inv .2)))
@@ -39,21 +34,18 @@ loop-again : tie.Need-loop-again Inv-loop μ-loop
 loop-again c =
     let p = c .before .before in
     let l = at-loop (p .before) in
-    let s = start l in
-    let a = s .args in (
+    let a = start l .args in (
       omega arith,
       omega arith,
       appends-as (then (l .loop .inv .2) (p .put-line .ensures .0)) _
-          (slot-lines-more (a .n) (l .loop .i) (a .codewords .now) (a .counts .now) (omega arith) (omega (arith, s .pre .1))),
+          (slot-lines-more (a .n) (l .loop .i) (a .codewords .now) (a .counts .now) (omega arith) (omega arith)),
     )
 
 returns : tie.Need-returns Inv-loop μ-loop
 returns c =
     let l = c .before in
-    let s = start l in
-    let a = s .args in
-    appends-as (l .loop .inv .2) _
-    (slot-lines-all (a .n) (l .loop .i) (a .codewords .now) (a .counts .now) (omega arith) (omega (arith, s .pre .1)))
+    let a = start l .args in
+    appends-as (l .loop .inv .2) _ (slot-lines-all (a .n) (l .loop .i) (a .codewords .now) (a .counts .now) (omega arith) (omega arith))
 
 pub put-lines-spec : {M : Type 1} → statement M
 put-lines-spec =

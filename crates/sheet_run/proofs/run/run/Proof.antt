@@ -29,8 +29,9 @@ finished c e A = ran _ _ (c .before .if1 .left) (sym e ∙ c .read .ensures .ans
 
 run-sheet-requires : tie.Need-run-sheet-requires
 run-sheet-requires c κs =
-    let r = c .before .before .before .before in
-    let (h, e) = c .before .before .a .given in
+    let a = c .before .before in
+    let r = a .before .before in
+    let (h, e) = a .a .given in
     (r .before .if1 .left, r .read .ensures .rows (h .0) e .inside, r .read .ensures .words (h .0) e .inside)
 
 returns-3 : tie.Need-returns-3

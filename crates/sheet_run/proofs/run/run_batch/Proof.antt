@@ -8,9 +8,6 @@ use borrow.Author.Needs.{needs}
 use Rattle.sheet_run.proofs.run.run_batch.Statement.{statement}
 use Rattle.sheet_run.proofs.run.run_batch.Tie as tie
 
-abbrev start : tie.After-decode-measured → tie.Start
-start c = c .before .before .before .before .before .before .before
-
 abbrev refused : tie.After-slice-known2 → tie.After-a
 refused c = c .before .before .before .before .before
 
@@ -29,13 +26,12 @@ returns c =
 put-batch-requires : tie.Need-put-batch-requires
 put-batch-requires c κs =
     let t = told c in
-    let m = decoded (t .before .before) in
-    let D = m .decode-measured .ensures .0 in
+    let (D, e) = decoded (t .before .before) .decode-measured .ensures in
     let d = t .enum-told .given .1 in (
       few-places D d,
-      apart D d _ (m .decode-measured .ensures .1),
+      apart D d _ e,
       counts-length D d ∙ sym (codewords-length D d),
-      omega (arith, codewords-length D d, few-words D d, start m .pre),
+      omega (arith, codewords-length D d, few-words D d),
     )
 
 returns-2 : tie.Need-returns-2
