@@ -10,6 +10,7 @@ use borrow.Author.Needs.{needs}
 use Rattle.golay.proofs.nearby.near_row.Statement.{statement}
 use Rattle.golay.proofs.nearby.near_row.Tie as tie
 
+-- s has 12 places
 few : (s : tie.Start) → weight (s .args .s) ≤ 12
 few s = ones-le 12 (s .args .s) (s .pre)
 

@@ -10,6 +10,7 @@ use borrow.Author.Needs.{needs}
 use Rattle.sheet.proofs.field.field_at.Statement.{statement}
 use Rattle.sheet.proofs.field.field_at.Tie as tie
 
+-- the tests that were passed before
 abbrev test1 : tie.Else3 → tie.Else1
 test1 c = c .before .before .before
 

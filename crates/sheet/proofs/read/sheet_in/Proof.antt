@@ -9,6 +9,7 @@ use borrow.Author.Needs.{needs}
 use Rattle.sheet.proofs.read.sheet_in.Statement.{statement}
 use Rattle.sheet.proofs.read.sheet_in.Tie as tie
 
+-- the tags read before
 abbrev n-read : tie.After-c22 → tie.After-c12
 n-read c = c .before .before .before .before
 

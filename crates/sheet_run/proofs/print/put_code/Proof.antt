@@ -6,6 +6,7 @@ use borrow.Author.Needs.{needs}
 use Rattle.sheet_run.proofs.print.put_code.Statement.{statement}
 use Rattle.sheet_run.proofs.print.put_code.Tie as tie
 
+-- the numbers put so far, the last first
 abbrev third : tie.After-put-number4 → tie.After-put-number3
 third c = c .before .before .before .before
 

@@ -9,6 +9,7 @@ use borrow.Author.Needs.{needs}
 use Rattle.sheet_run.proofs.print.put_line.Statement.{statement}
 use Rattle.sheet_run.proofs.print.put_line.Tie as tie
 
+-- the parts put so far, the last first
 abbrev ending : tie.After-put-arg2 → tie.After-put-ending
 ending c = c .before .before .before
 
@@ -21,6 +22,7 @@ digits c = c .before .before .before
 abbrev start : tie.After-put-digits → tie.Start
 start c = c .before .before .before
 
+-- there are n digits
 long : (c : tie.After-put-digits) → length (digitsOf (start c .args .n) (start c .args .c)) ≡ start c .args .n
 long c = length-digits (start c .args .n) (start c .args .c)
 

@@ -5,6 +5,7 @@ use borrow.Author.Needs.{needs}
 use Rattle.sheet_run.proofs.print.put_refusal.Statement.{statement}
 use Rattle.sheet_run.proofs.print.put_refusal.Tie as tie
 
+-- the parts put so far, the last first
 abbrev number : tie.After-put-number2 → tie.After-put-number
 number c = c .before .before .before .before
 

@@ -15,6 +15,7 @@ use Rattle.sheet_run.proofs.run.run.Tie as tie
 abbrev start : tie.After-read → tie.Start
 start c = c .before .before .before .before
 
+-- the sheet that was read, and the refusal
 abbrev accepted : tie.After-slice-known2 → tie.After-a
 accepted c = c .before .before .before .before .before
 

@@ -8,6 +8,7 @@ use borrow.Author.Needs.{needs}
 use Rattle.sheet_run.proofs.run.run_batch.Statement.{statement}
 use Rattle.sheet_run.proofs.run.run_batch.Tie as tie
 
+-- the refusal, what Decode left, and that it was no refusal
 abbrev refused : tie.After-slice-known2 → tie.After-a
 refused c = c .before .before .before .before .before
 
