@@ -11,6 +11,7 @@ use Rattle.coding.specs.Word.{bit}
 use Rattle.coding.proofs.ListLaws.{length-tabulate, getD-tabulate}
 use Rattle.sheet_run.specs.Decimal.{digit, decimal}
 use Rattle.sheet_run.specs.Output.{space, lineFeed, refusedText, refusedLine, codeLine, digitsOf}
+use Rattle.sheet_run.specs.Inner.Appended.{Appends}
 use Rattle.sheet_run.specs.Inner.Slots.{slotEnding, slotLine, slotLines}
 
 pub refused-parts : (number value : ℕ)
@@ -31,6 +32,11 @@ slot-parts n c count = simp append-assoc
 pub length-digits : (n w : ℕ) → length (digitsOf n w) ≡ n
 unfolding digitsOf
 length-digits n w = length-tabulate (λ i. digit (bit w i)) n
+
+-- after the digits
+pub digits-end : (n w : ℕ) {before : List ℕ} {at : ℕ} {after : List ℕ} {next : ℕ} → Appends before at (digitsOf n w) after next
+    → next ≡ at + n
+digits-end n w A = omega (arith, length-digits n w)
 
 pub digit-of : (n w p : ℕ) → p < n → getD (digitsOf n w) p 0 ≡ digit (bit w p)
 unfolding digitsOf

@@ -29,14 +29,12 @@ pub +put-decimal-spec : {M : Type 1} → statement M
 +put-decimal-spec = close μ-put-decimal λ t. put-decimal-lts.spec (put-reads.Asked, put-reads.Learnt, put-decimal-below t, put-decimal.Post)
     (put-decimal-at t) put-decimal.Post (λ c. omega arith) (λ c. omega arith)
     (λ c κs. omega (arith, ap length (decimal-small _ (c .before .if1 .taken))))
-    (λ c. appends-length (c .before .before .put .ensures))
+    (λ c. omega (arith, appends-length))
     (λ c. let p = c .before .before in rw (decimal-small _ (p .before .before .if1 .taken)) (p .put .ensures))
     (λ c κs. let more = decimal-tenth _ (c .before .if1 .left) in (omega arith, omega arith))
     (λ c. omega arith) (λ c. omega arith)
-    (λ c κs. let d = c .before .before .before in
-    omega (arith, appends-length (d .put-decimal .ensures), decimal-tenth _ (d .before .before .if1 .left)))
-    (λ c. let l = c .before .before .before in
-    appends-length (then (l .before .before .before .put-decimal .ensures) (c .before .before .put2 .ensures)))
+    (λ c κs. let d = c .before .before .before in omega (arith, appends-length, decimal-tenth _ (d .before .before .if1 .left)))
+    (λ c. omega (arith, appends-length))
     (λ c. let l = c .before .before .before in
     let d = l .before .before .before in
     rw (decimal-more _ (d .before .before .if1 .left)) (then (d .put-decimal .ensures) (c .before .before .put2 .ensures)))

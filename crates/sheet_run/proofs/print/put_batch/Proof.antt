@@ -5,20 +5,9 @@ use borrow.Author.Needs.{needs}
 use Rattle.sheet_run.proofs.print.put_batch.Statement.{statement}
 use Rattle.sheet_run.proofs.print.put_batch.Tie as tie
 
-abbrev first-line : tie.After-put-lines-arg → tie.After-put-code
-first-line c = c .before .before .before
-
-abbrev start : tie.After-put-code → tie.Start
-start c = c .before .before .before .before .before
-
-put-lines-requires : tie.Need-put-lines-requires
-put-lines-requires c κs =
-    let A = first-line c .put-code .ensures in
-    let (n, d, l, room) = start (first-line c) .pre in
-    (n, l, omega (arith, appends-length (A .0)))
-
 pub put-batch-spec : {M : Type 1} → statement M
 put-batch-spec =
     tie.close
-    (tie.spec (λ c κs. search needs) put-lines-requires (λ c. search needs)
-    (λ c. let l = c .before .before in then (first-line (l .before) .put-code .ensures .0) (l .put-lines .ensures)))
+    (tie.spec (λ c κs. search needs) (λ c κs. (omega arith, omega arith, omega (arith, appends-length))) (λ c. search needs)
+    (λ c. let l = c .before .before .before in
+    then (l .before .before .before .put-code .ensures .0) (c .before .before .put-lines .ensures)))

@@ -27,9 +27,6 @@ loop-holds : tie.Need-loop-holds Inv-loop μ-loop
 unfolding slotLines
 loop-holds c = (search needs, omega arith, appends-none _ _ (omega arith))
 
-put-line-requires : tie.Need-put-line-requires Inv-loop μ-loop
-put-line-requires c κs = let l = at-loop c in (start l .pre .0, omega (arith, appends-length (l .loop .inv .2)))
-
 loop-again : tie.Need-loop-again Inv-loop μ-loop
 loop-again c =
     let p = c .before .before in
@@ -50,5 +47,5 @@ returns c =
 pub put-lines-spec : {M : Type 1} → statement M
 put-lines-spec =
     tie.close
-    (tie.spec Inv-loop μ-loop loop-holds (λ c. search needs) (λ c. search needs) (λ c. search needs) put-line-requires
-    (λ c. search needs) (λ c. search needs) loop-again (λ c. appends-length (c .before .loop .inv .2)) returns)
+    (tie.spec Inv-loop μ-loop loop-holds (λ c. search needs) (λ c. search needs) (λ c. search needs)
+    (λ c κs. (omega arith, omega (arith, appends-length))) (λ c. search needs) (λ c. search needs) loop-again (λ c. omega (arith, appends-length)) returns)

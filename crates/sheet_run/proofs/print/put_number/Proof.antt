@@ -16,9 +16,6 @@ digits c = c .before .before .before
 few : (c : tie.After-put-decimal-arg) → length (decimal (c .before .before .args .x)) ≤ 20
 few c = let s = c .before .before in decimal-word (s .args .x) (s .fits .x .fits)
 
-put-requires : tie.Need-put-requires
-put-requires c κs = let d = digits c in omega (arith, appends-length (d .put-decimal .ensures), few (d .before))
-
 returns : tie.Need-returns
 returns c =
     let p = c .before .before in
@@ -26,4 +23,4 @@ returns c =
     (then (d .put-decimal .ensures) (p .put .ensures), omega (arith, few (d .before)))
 
 pub put-number-spec : {M : Type 1} → statement M
-put-number-spec = tie.close (tie.spec (λ c κs. omega (arith, few c)) put-requires (λ c. search needs) returns)
+put-number-spec = tie.close (tie.spec (λ c κs. omega (arith, few c)) (λ c κs. omega (arith, appends-length, few (digits c .before))) (λ c. search needs) returns)
