@@ -51,7 +51,8 @@ module _ (w : ℕ) (h : w < 2 ^ 24) where
       ∙ xor-self (systematicSyndrome 12 golayChecks w))
 
   -- the sum with a codeword has the word's syndrome
-  codeword-pattern : (c : ℕ) → Codeword golayRows c → (w ⊕ c < 2 ^ 24) × (systematicSyndrome 12 golayChecks (w ⊕ c) ≡ systematicSyndrome 12 golayChecks w)
+  codeword-pattern : (c : ℕ) → Codeword golayRows c
+      → (w ⊕ c < 2 ^ 24) × (systematicSyndrome 12 golayChecks (w ⊕ c) ≡ systematicSyndrome 12 golayChecks w)
   codeword-pattern c k =
       let l : c < 2 ^ 24 = codeword-lt 24 golayRows (golay-accepted .inside) c k in (
         xor-lt 24 w c h l,
@@ -77,10 +78,12 @@ module _ (w : ℕ) (h : w < 2 ^ 24) where
       clean-zero : Clean w ≡ outcomeOf (Within 3) w 0
       clean-zero = sym (simp (weight-zero) refl)
 
-  pub golay-rules : RadiusRules ℕ (Codeword golayRows) distance 8 3 w (wordIn (golayOutcome w) w) (countIn (golayOutcome w)) (countIn (golayOutcome w) ≡ 255)
+  pub golay-rules : RadiusRules ℕ (Codeword golayRows) distance 8 3 w (wordIn (golayOutcome w) w) (countIn (golayOutcome w))
+      (countIn (golayOutcome w) ≡ 255)
   unfolding golayOutcome
   golay-rules =
-      subst (λ (d : ℕ). RadiusRules ℕ (Codeword golayRows) distance d 3 w (wordIn (golayOutcome w) w) (countIn (golayOutcome w)) (countIn (golayOutcome w) ≡ 255))
+      subst (λ (d : ℕ). RadiusRules ℕ (Codeword golayRows) distance d 3 w (wordIn (golayOutcome w) w) (countIn (golayOutcome w))
+      (countIn (golayOutcome w) ≡ 255))
       golay-dmin (radius-rule 24 12 golayRows golay-accepted w h 3 (rw golay-dmin (lit≤ tt)))
 
 pub golay-clean : (w : ℕ) → (countIn (golayOutcome w) ≡ 0) ↔ (golayOutcome w ≡ Clean w)
@@ -139,7 +142,8 @@ module _ (w : ℕ) where
   pub read-outside : ltb w (2 ^ 24) ≡ false → MessageRead w (record { answer = Refused (WordOutside 0); message = 0 })
   read-outside f = record { answer = sym (simp f refl); message = refl; one = golay-message w; places = golay-places w }
 
-  pub read-refused : ltb w (2 ^ 24) ≡ true → systematicSyndrome 12 golayChecks w ≢ 0 → MessageRead w (record { answer = Refused (NoCodeword 0); message = 0 })
+  pub read-refused : ltb w (2 ^ 24) ≡ true → systematicSyndrome 12 golayChecks w ≢ 0
+      → MessageRead w (record { answer = Refused (NoCodeword 0); message = 0 })
   read-refused t ne = record {
     answer = sym (simp (t, codeword-fails golayRows w (λ c. ne (golay-test w (ltb-true w (2 ^ 24) t) .0 c))) refl);
     message = refl;

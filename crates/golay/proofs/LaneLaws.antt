@@ -50,7 +50,8 @@ lanes-lt f [] h = lit< tt
 lanes-lt f (p ∷ P) h =
     omega (arith, each-head (λ p. f p < 32) p P h, lanes-lt f P (each-tail (λ p. f p < 32) p P h), pow-suc 32 (length P))
 
-pub lanes-and : (f g : ℕ → ℕ) (P : List ℕ) → Each (λ p. (f p < 32) × (g p < 32)) P → bitAnd (lanes f P) (lanes g P) ≡ lanes (λ p. bitAnd (f p) (g p)) P
+pub lanes-and : (f g : ℕ → ℕ) (P : List ℕ) → Each (λ p. (f p < 32) × (g p < 32)) P
+    → bitAnd (lanes f P) (lanes g P) ≡ lanes (λ p. bitAnd (f p) (g p)) P
 lanes-and f g [] h = and-zero-l 0
 lanes-and f g (p ∷ P) h =
     let (a, b) = each-head (λ p. (f p < 32) × (g p < 32)) p P h in
@@ -70,7 +71,8 @@ high-bit x h = and-high x 1 4 ∙ go (decLe 16 x)
     go (yes l) = let e : (x / 2 ^ 4 % 2 ^ 1) * 2 ^ 4 ≡ 16 = omega arith in e ∙ sym (simp (le-leb 16 x l) refl)
     go (no l) = let e : (x / 2 ^ 4 % 2 ^ 1) * 2 ^ 4 ≡ 0 = omega arith in e ∙ sym (simp (lt-leb 16 x (omega arith)) refl)
 
-pub lanes-high : (f : ℕ → ℕ) (P : List ℕ) → Each (λ p. f p < 32) P → bitAnd (lanes f P) (lanes (λ p. 16) P) ≡ lanes (λ p. cond (leb 16 (f p)) 16 0) P
+pub lanes-high : (f : ℕ → ℕ) (P : List ℕ) → Each (λ p. f p < 32) P
+    → bitAnd (lanes f P) (lanes (λ p. 16) P) ≡ lanes (λ p. cond (leb 16 (f p)) 16 0) P
 lanes-high f P h =
     lanes-and f (λ p. 16) P (λ i l. (h i l, lit< tt))
     ∙ lanes-same (λ p. bitAnd (f p) 16) (λ p. cond (leb 16 (f p)) 16 0) P (λ i l. high-bit (f (getD P i 0)) (h i l))

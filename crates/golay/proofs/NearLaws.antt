@@ -121,7 +121,8 @@ module _ (s : ℕ) (h : s < 2 ^ 12) where
       ap (λ (x : ℕ). trailingZeros 64 (bitAnd x (lanes (λ p. 16) golayChecks)) / 5) (e ∙ reached)
       ∙ ap (λ (x : ℕ). trailingZeros 64 x / 5) (lanes-high reach golayChecks below)
       ∙ (rw golay-size at (first-lane (λ p. leb 16 (reach p)) golayChecks))
-      ∙ first-same (λ i. leb 16 (reach (getD golayChecks i 0))) (λ i. leb (weight (s ⊕ getD golayChecks i 0)) 2) 12 (λ i l. near-test i (rw golay-size l))
+      ∙ first-same (λ i. leb 16 (reach (getD golayChecks i 0)))
+      (λ i. leb (weight (s ⊕ getD golayChecks i 0)) 2) 12 (λ i l. near-test i (rw golay-size l))
 
   -- the sums fit in 64 bits
   pub overlaps-lt : lanes (λ p. weight (bitAnd s p)) golayChecks < 2 ^ 60

@@ -71,7 +71,8 @@ check-pattern s h l = record {
     high-part = omega arith
 
 -- a message place i, and check places
-pub row-pattern : (s i e : ℕ) → s < 2 ^ 12 → i < 12 → weight (s ⊕ getD golayChecks i 0) ≤ 2 → e ≡ 2 ^ (12 + i) ⊕ (s ⊕ getD golayChecks i 0) → Pattern s e
+pub row-pattern : (s i e : ℕ) → s < 2 ^ 12 → i < 12 → weight (s ⊕ getD golayChecks i 0) ≤ 2
+    → e ≡ 2 ^ (12 + i) ⊕ (s ⊕ getD golayChecks i 0) → Pattern s e
 row-pattern s i e h k l q = record {
   below = rw is (halves-lt x (2 ^ i) x-lt (pow-lt k));
   has = ap (systematicSyndrome 12 golayChecks) is ∙ pattern-syndrome 12 golayChecks x (2 ^ i) x-lt
@@ -103,7 +104,9 @@ few-none s h far = record { found = λ ne. absurd (ne refl); none = λ _ x y l e
   where
     go : (x y : ℕ) → y < 2 ^ 12 → x ⊕ encode golayChecks y ≡ s → (c : ℕ) → weight y ≡ c → c ≤ 1 → 3 < weight x + c
     go x y l e zero q k =
-        let z : x ≡ s = sym (ap (λ (a : ℕ). x ⊕ encode golayChecks a) (weight-none y q) ∙ ap (λ (a : ℕ). x ⊕ a) (encode-zero golayChecks) ∙ xor-zero-r x) ∙ e in
+        let z : x ≡ s
+        = sym (ap (λ (a : ℕ). x ⊕ encode golayChecks a) (weight-none y q) ∙ ap (λ (a : ℕ). x ⊕ a) (encode-zero golayChecks)
+        ∙ xor-zero-r x) ∙ e in
         omega (arith, h, ap weight z)
     go x y l e (suc zero) q k =
         let (i, m, f) = weight-one 12 y l q in

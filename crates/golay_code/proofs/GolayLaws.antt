@@ -32,6 +32,9 @@ pub checks-are : golayChecks ≡ checkWords
 unfolding golayChecks checkWords
 checks-are = refl
 
+pub check-word : (i : ℕ) → getD checkWords i 0 ≡ getD golayChecks i 0
+check-word i = ap (λ (l : List ℕ). getD l i 0) (sym checks-are)
+
 pub golay-size : length golayChecks ≡ 12
 unfolding golayChecks
 golay-size = refl

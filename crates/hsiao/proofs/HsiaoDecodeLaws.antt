@@ -15,7 +15,8 @@ use Rattle.coding.specs.Columns.{SplitWord, splitDistance, units, splitSyndrome
 use Rattle.coding.proofs.SearchLaws.{first-hit, first-upto}
 use Rattle.coding.proofs.ListLaws.{length-tabulate, getD-tabulate}
 use Rattle.coding.proofs.RadiusLaws.{radius-found}
-use Rattle.coding.proofs.ColumnLaws.{split-discrete, split-distance-sym, split-distance-tri, split-distance-self, four-apart, IsColumn, check-changed-distance, info-changed-distance, mend-check, mend-info, near-syndrome}
+use Rattle.coding.proofs.ColumnLaws.{split-discrete, split-distance-sym, split-distance-tri, split-distance-self, four-apart}
+use Rattle.coding.proofs.ColumnLaws.{IsColumn, check-changed-distance, info-changed-distance, mend-check, mend-info, near-syndrome}
 use Rattle.hsiao.specs.Table.{split}
 use Rattle.hsiao.specs.Outcome.{withCheck, withData, outcomeAt, outcomeBy, wordIn, countIn}
 use Rattle.hsiao.specs.declared.word.Word.{Word}
@@ -40,6 +41,10 @@ module _ (c : ℕ) where
   unit-upto : (s j : ℕ) → j < c → s ≡ 2 ^ j → columnPlace (units c) s ≤ j
   unit-upto s j h e = place-upto (units c) s j (omega (arith, h, units-length)) (e ∙ sym (getD-tabulate (λ i. 2 ^ i) c j h))
 
+-- the outcome by the three tests: no error, the column of check place j, that of data place i
+abbrev tested : Word → ℕ → ℕ → Bool → Bool → Bool → Outcome
+tested w j i b₀ b₁ b₂ = cond b₀ (Clean w) (cond b₁ (Mended (withCheck w j) 1) (cond b₂ (Mended (withData w i) 1) Far))
+
 module _ (c : ℕ) (cols : List ℕ) (K : OddColumns c cols) (w : Word) (P : SplitPlaces c cols (split w)) where
   -- the outcome is a codeword within 1 with its distance as the count, or far and no codeword is within 1
   abbrev Found : Outcome → Type 0
@@ -63,8 +68,9 @@ module _ (c : ℕ) (cols : List ℕ) (K : OddColumns c cols) (w : Word) (P : Spl
       none e₀ e₁ e₂ (inr (inl (j, h, z))) = absurd (omega (arith, ltb-false (columnPlace (units c) s₀) c e₁, unit-upto c s₀ j h z))
       none e₀ e₁ e₂ (inr (inr (i, h, z))) = absurd (omega (arith, ltb-false (columnPlace cols s₀) (length cols) e₂, place-upto cols s₀ i h z))
 
-      go : (b₀ b₁ b₂ : Bool) → eqb s₀ 0 ≡ b₀ → ltb (columnPlace (units c) s₀) c ≡ b₁ → ltb (columnPlace cols s₀) (length cols) ≡ b₂
-          → Found (cond b₀ (Clean w) (cond b₁ (Mended (withCheck w (columnPlace (units c) s₀)) 1) (cond b₂ (Mended (withData w (columnPlace cols s₀)) 1) Far)))
+      go : (b₀ b₁ b₂ : Bool)
+          → eqb s₀ 0 ≡ b₀ → ltb (columnPlace (units c) s₀) c ≡ b₁ → ltb (columnPlace cols s₀) (length cols) ≡ b₂
+          → Found (tested w (columnPlace (units c) s₀) (columnPlace cols s₀) b₀ b₁ b₂)
       go true b₁ b₂ e₀ e₁ e₂ =
           let d = split-distance-self (split w) in
           inr (
@@ -107,9 +113,12 @@ module _ (c : ℕ) (cols : List ℕ) (w : Word) (s : ℕ) where
       clash o m n e ne p f = ((λ z. absurd (ne (sym e ∙ z))), λ z. absurd (ne (sym e ∙ ap countIn z ∙ f)))
 
       mended : (v : Word) → Told (Mended v 1)
-      mended v = (clash (Mended v 1) 1 0 refl (λ z. absurd (omega (arith, z))) (Clean w) refl, clash (Mended v 1) 1 255 refl (λ z. absurd (omega (arith, z))) Far refl)
+      mended v = (
+        clash (Mended v 1) 1 0 refl (λ z. absurd (omega arith)) (Clean w) refl,
+        clash (Mended v 1) 1 255 refl (λ z. absurd (omega arith)) Far refl,
+      )
 
-      go : (b₀ b₁ b₂ : Bool) → Told (cond b₀ (Clean w) (cond b₁ (Mended (withCheck w (columnPlace (units c) s)) 1) (cond b₂ (Mended (withData w (columnPlace cols s)) 1) Far)))
+      go : (b₀ b₁ b₂ : Bool) → Told (tested w (columnPlace (units c) s) (columnPlace cols s) b₀ b₁ b₂)
       go true b₁ b₂ = (((λ _. refl), λ _. refl), clash (Clean w) 0 255 refl (λ z. absurd (omega (arith, z))) Far refl)
       go false true b₂ = mended (withCheck w (columnPlace (units c) s))
       go false false true = mended (withData w (columnPlace cols s))

@@ -2,7 +2,7 @@
 use mathlib.Core.Path.{_≡_, refl, sym, ap, _∙_}
 use mathlib.Core.Bool.{Bool, true, false, cond}
 use Prim.Native.Nat.{ℕ, suc, _+_, _≤_, _<_}
-use native.Mathlib.Nat.{le-refl}
+use native.Mathlib.Nat.{le-refl, zero-add}
 use native.Mathlib.Numerals.{add-one}
 use native.Mathlib.Decide.{decLe, ℕ-discrete}
 use native.Mathlib.Omega.{arith}
@@ -19,14 +19,21 @@ number-is p i j e h = rw (e, lt-ltb j i h)
 
 module _ (p : ℕ → Bool) (i : ℕ) where
   -- none passes
-  pub number-none : ((j : ℕ) → j < i → p j ≡ false) → numberBelow p i ≡ 0
+  number-none : ((j : ℕ) → j < i → p j ≡ false) → numberBelow p i ≡ 0
   number-none f =
       let e : first p i ≡ i = first-is p i i (le-refl i) f (λ h. absurd (omega arith)) in
       rw (e, le-ltb i i (le-refl i))
 
   -- the next one passes, and none before it
-  pub number-found : ((j : ℕ) → j < i → p j ≡ false) → p i ≡ true → numberBelow p (i + 1) ≡ i + 1
+  number-found : ((j : ℕ) → j < i → p j ≡ false) → p i ≡ true → numberBelow p (i + 1) ≡ i + 1
   number-found f t = rw add-one (number-is p (suc i) i (first-is p (suc i) i (omega arith) f (λ _. t)) (le-refl (suc i)))
+
+  -- so it is counted once, with its number
+  pub number-hit : {n : ℕ} → n ≡ numberBelow p i → ((j : ℕ) → j < i → p j ≡ false) → p i ≡ true
+      → (n ≡ 0) × (n + (i + 1) ≡ numberBelow p (i + 1))
+  number-hit e f t =
+      let z = e ∙ number-none f in
+      (z, ap (λ (m : ℕ). m + (i + 1)) z ∙ zero-add (i + 1) ∙ sym (number-found f t))
 
   -- the next one does not pass
   pub number-passed : p i ≡ false → numberBelow p (i + 1) ≡ numberBelow p i

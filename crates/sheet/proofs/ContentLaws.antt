@@ -19,13 +19,15 @@ use Rattle.sheet.specs.declared.field.Field.the-variants.{Got}
 use Rattle.sheet.proofs.field.Content.{the-type}
 
 -- no byte: the tag is missing, or its content is words
-pub no-byte : (x : Content) → OneOf (0 ∷ 2 ∷ []) (tagOf the-type x) → (end : ℕ) (rest : ℕ → SheetAnswer) → Refused (Tag end) ≡ withByte x end rest
+pub no-byte : (x : Content) → OneOf (0 ∷ 2 ∷ []) (tagOf the-type x) → (end : ℕ) (rest : ℕ → SheetAnswer)
+    → Refused (Tag end) ≡ withByte x end rest
 no-byte Absent h end rest = refl
 no-byte (Byte b) (inl e) end rest = absurd (omega (arith, e))
 no-byte (Byte b) (inr e) end rest = absurd (omega (arith, e))
 no-byte (Words span) h end rest = refl
 
-pub no-words : (x : Content) → OneOf (0 ∷ 1 ∷ []) (tagOf the-type x) → (end : ℕ) (rest : Span → SheetAnswer) → Refused (Tag end) ≡ withWords x end rest
+pub no-words : (x : Content) → OneOf (0 ∷ 1 ∷ []) (tagOf the-type x) → (end : ℕ) (rest : Span → SheetAnswer)
+    → Refused (Tag end) ≡ withWords x end rest
 no-words Absent h end rest = refl
 no-words (Byte b) h end rest = refl
 no-words (Words span) (inl e) end rest = absurd (omega (arith, e))

@@ -1,14 +1,14 @@
--- Laws of the reading: what a field that was read leaves known, and one step of the recursion over fields. Assumes nothing.
-use mathlib.Core.Path.{_≡_, refl}
+-- Laws of the reading: what a field that was read leaves known, one step of the recursion over fields, and a loop over them. Assumes nothing.
+use mathlib.Core.Path.{_≡_, refl, _∙_}
 use mathlib.Core.Bool.{Bool, true, false, cond}
 use mathlib.Core.List.{List}
 use Prim.Native.Nat.{ℕ, zero, suc, _+_, _-_, _≤_, _<_}
 use native.Mathlib.Omega.{arith}
 use borrow.Author.Tests.{ltb-false, leb-false, lt-ltb, le-ltb}
 use lib.Dec.{ltb, leb}
-use lib.ListN.{length, getD, set}
+use lib.ListN.{length, getD, set, replicate, length-set}
 use Rattle.sheet.specs.Field.{maxTag, contentOf, sizeAt, gotten, fieldAt}
-use Rattle.sheet.specs.Sheet.{sheetIn, sheetFrom}
+use Rattle.sheet.specs.Sheet.{maxSheet, sheetIn, sheetFrom, sheetOf}
 use Rattle.sheet.specs.declared.answer.Fault.{Fault}
 use Rattle.sheet.specs.declared.answer.Fault.the-variants.{Layout, Tag}
 use Rattle.sheet.specs.declared.answer.SheetAnswer.the-variants.{Refused}
@@ -60,20 +60,60 @@ good s at last t x z h e =
 
 -- ---- one step
 
-pub reads-on : (d : ℕ) (s : List ℕ) (at last : ℕ) (contents : List Content) (tag : ℕ) (content : Content) (next : ℕ) → 0 < d → at < length s
-    → fieldAt s at last ≡ Got tag content next
-    → (k : ℕ) × (d ≡ suc k) × (sheetFrom d s at last contents ≡ sheetFrom k s next tag (set contents tag content))
-unfolding sheetFrom
-reads-on zero s at last contents tag content next p h e = absurd (omega arith)
-reads-on (suc d) s at last contents tag content next p h e = (d, refl, rw (lt-ltb at (length s) h, e))
-
 pub stops-at : (d : ℕ) (s : List ℕ) (at last : ℕ) (contents : List Content) (c : Fault) → 0 < d → at < length s → fieldAt s at last ≡ Bad c
     → sheetFrom d s at last contents ≡ Refused c
 unfolding sheetFrom
 stops-at zero s at last contents c p h e = absurd (omega arith)
 stops-at (suc d) s at last contents c p h e = rw (lt-ltb at (length s) h, e)
 
-pub at-end : (d : ℕ) (s : List ℕ) (at last : ℕ) (contents : List Content) → length s ≤ at → sheetFrom d s at last contents ≡ sheetIn contents (length s)
+pub at-end : (d : ℕ) (s : List ℕ) (at last : ℕ) (contents : List Content) → length s ≤ at
+    → sheetFrom d s at last contents ≡ sheetIn contents (length s)
 unfolding sheetFrom
 at-end zero s at last contents h = refl
 at-end (suc d) s at last contents h = rw (le-ltb at (length s) h)
+
+-- ---- a loop over the fields: the answer is that of the fields left, after the last tag and with the contents so far
+
+pub record Reads (s : List ℕ) (contents : List Content) (at last : ℕ) : Type 0 where
+  pub within : at ≤ length s
+  pub known : last ≤ maxTag
+  pub tags : length contents ≡ suc maxTag
+  pub steps : ℕ
+  pub enough : length s ≤ steps + at
+  pub same : sheetOf s ≡ sheetFrom steps s at last contents
+
+pub reads-start : (s : List ℕ) → length s ≤ maxSheet → Reads s (replicate (suc maxTag) Absent) 0 0
+unfolding sheetOf
+reads-start s h = record {
+  within = omega arith;
+  known = omega arith;
+  tags = refl;
+  steps = length s;
+  enough = omega arith;
+  same = simp (le-ltb _ _ h);
+}
+
+module _ {s : List ℕ} {contents : List Content} {at last : ℕ} (R : Reads s contents at last) where
+  pub reads-stop : (c : Fault) → at < length s → fieldAt s at last ≡ Bad c → sheetOf s ≡ Refused c
+  reads-stop c h e = R .same ∙ stops-at (R .steps) s at last contents c (omega arith) h e
+
+  pub reads-end : length s ≤ at → sheetOf s ≡ sheetIn contents (length s)
+  reads-end h = R .same ∙ at-end (R .steps) s at last contents h
+
+  module _ (tag : ℕ) (content : Content) (next : ℕ) (h : at < length s) (e : fieldAt s at last ≡ Got tag content next) where
+    reads-on : (d : ℕ) → 0 < d → sheetFrom d s at last contents ≡ sheetFrom (d - 1) s next tag (set contents tag content)
+    unfolding sheetFrom
+    reads-on zero p = absurd (omega arith)
+    reads-on (suc d) p = let q : suc d - 1 ≡ d = omega arith in rw (lt-ltb at (length s) h, e, q)
+
+    pub reads-step : Reads s (set contents tag content) next tag
+    reads-step =
+        let G = good s at last tag content next (R .within) e in
+        record {
+          within = G .within;
+          known = G .known;
+          tags = length-set contents tag content ∙ R .tags;
+          steps = R .steps - 1;
+          enough = omega arith;
+          same = R .same ∙ reads-on (R .steps) (omega arith);
+        }

@@ -36,7 +36,8 @@ no-answer : {A : Type 0} {s : Sheet} {f : Fault} → Refused f ≡ Read s → A
 no-answer e = let z : _≡_ {A = ℕ} 0 1 = cc in absurd (omega arith)
 
 module _ (s : List ℕ) (span : Span) where
-  either : (b : Bool) (x y : Content) → cond b x y ≡ Words span → (x ≡ Words span → Within s span) → (y ≡ Words span → Within s span) → Within s span
+  either : (b : Bool) (x y : Content) → cond b x y ≡ Words span → (x ≡ Words span → Within s span) → (y ≡ Words span → Within s span)
+      → Within s span
   either true x y e f g = f e
   either false x y e f g = g e
 
@@ -66,7 +67,8 @@ inside-set : (s : List ℕ) (contents : List Content) (tag : ℕ) (content : Con
 inside-set s contents tag content I w t span e = go (ℕ-discrete t tag) (decLe (suc tag) (length contents))
   where
     go : Dec (t ≡ tag) → Dec (tag < length contents) → Within s span
-    go (yes q) (yes l) = w span (sym (getD-set-same contents tag content Absent l) ∙ ap (λ (x : ℕ). getD (set contents tag content) x Absent) (sym q) ∙ e)
+    go (yes q) (yes l) =
+        w span (sym (getD-set-same contents tag content Absent l) ∙ ap (λ (x : ℕ). getD (set contents tag content) x Absent) (sym q) ∙ e)
     go (yes q) (no l) = I t span (ap (λ (x : List Content). getD x t Absent) (sym (set-out contents tag content (omega arith))) ∙ e)
     go (no n) l = I t span (sym (getD-set-other contents tag t content Absent n) ∙ e)
 
@@ -109,7 +111,8 @@ placed-from (suc d) s at last contents h l I e =
     go true q (Got tag content next) g rec =
         let G = good s at last tag content next l g in
         rec tag content next (G .within)
-        (inside-set s contents tag content I (λ span w. content-within s span tag (at + 3) (next - (at + 3)) (omega (arith, G .longer, G .within)) (G .content-is ∙ w)))
+        (inside-set s contents tag content I (λ span w. content-within s span tag (at + 3) (next - (at + 3))
+        (omega (arith, G .longer, G .within)) (G .content-is ∙ w)))
         (rw (q, g) at e)
 
 no-contents : (s : List ℕ) (m : ℕ) → Inside s (replicate m Absent)

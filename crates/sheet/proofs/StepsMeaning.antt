@@ -25,7 +25,9 @@ enough-steps (suc d) (suc e) s at last contents h k =
         → ((next tag : ℕ) (contents : List Content) → at < next → sheetFrom d s next tag contents ≡ sheetFrom e s next tag contents)
         → sheetFrom (suc d) s at last contents ≡ sheetFrom (suc e) s at last contents
     go (yes l) f g rec = at-end (suc d) s at last contents l ∙ sym (at-end (suc e) s at last contents l)
-    go (no l) (Bad c) g rec = stops-at (suc d) s at last contents c (omega arith) (omega arith) g ∙ sym (stops-at (suc e) s at last contents c (omega arith) (omega arith) g)
+    go (no l) (Bad c) g rec =
+        stops-at (suc d) s at last contents c (omega arith) (omega arith) g
+        ∙ sym (stops-at (suc e) s at last contents c (omega arith) (omega arith) g)
     go (no l) (Got tag content next) g rec =
         let G = good s at last tag content next (omega arith) g in
         rw (lt-ltb at (length s) (omega arith), g) (rec next tag (set contents tag content) (omega (arith, G .longer)))

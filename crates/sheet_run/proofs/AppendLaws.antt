@@ -1,11 +1,12 @@
--- Laws of writers: one byte, one writer after another, and a list that is written from its first slot on. Assumes nothing.
+-- Laws of writers: one byte, one writer after another, and a loop that puts one byte after the other. Assumes nothing.
 use mathlib.Core.Path.{_≡_, refl, sym, ap, ap₂, _∙_}
 use mathlib.Core.List.{List, [], _∷_, _++_, append-assoc, append-nil}
-use Prim.Native.Nat.{ℕ, _+_, _≤_}
+use Prim.Native.Nat.{ℕ, _+_, _≤_, _<_}
 use native.Mathlib.Nat.{add-zero}
+use native.Mathlib.Numerals.{add-one}
 use native.Mathlib.Omega.{arith}
-use lib.ListN.{length, take, drop, set, length-append, length-drop, take-append-drop}
-use lib.Seq.{sets-eq, length-take-le, drop-drop, take-at, drop-at}
+use lib.ListN.{length, getD, take, drop, set, length-append, length-drop, take-append-drop}
+use lib.Seq.{sets-eq, length-take-le, drop-drop, take-at, drop-at, take-suc, take-length}
 use Rattle.sheet_run.specs.Inner.Appended.{Appends}
 
 module _ {before : List ℕ} {at : ℕ} {bytes after : List ℕ} {next : ℕ} (A : Appends before at bytes after next) where
@@ -18,7 +19,8 @@ module _ {before : List ℕ} {at : ℕ} {bytes after : List ℕ} {next : ℕ} (A
   -- the list is as long as it was
   pub appends-length : length after ≡ length before
   appends-length =
-      ap length split ∙ length-append (take at before ++ bytes) (drop next before) ∙ omega (arith, front, length-drop next before, A .fits, A .ends)
+      ap length split ∙ length-append (take at before ++ bytes) (drop next before)
+      ∙ omega (arith, front, length-drop next before, A .fits, A .ends)
 
   pub appends-end : next ≤ length after
   appends-end = omega (arith, A .ends, A .fits, appends-length)
@@ -26,7 +28,8 @@ module _ {before : List ℕ} {at : ℕ} {bytes after : List ℕ} {next : ℕ} (A
   -- the next writer's bytes come after
   pub then : {more last : List ℕ} {end : ℕ} → Appends after next more last end → Appends before at (bytes ++ more) last end
   then {more} {last} {end} B =
-      let t : take next after ≡ take at before ++ bytes = ap (take next) split ∙ take-at (take at before ++ bytes) (drop next before) next front in
+      let t : take next after ≡ take at before ++ bytes
+      = ap (take next) split ∙ take-at (take at before ++ bytes) (drop next before) next front in
       let n : next + length more ≡ at + length (bytes ++ more) = omega (arith, length-append bytes more, A .ends) in
       let d : drop (next + length more) after ≡ drop (at + length (bytes ++ more)) before
       = sym (drop-drop (length more) next after)
@@ -42,25 +45,52 @@ module _ {before : List ℕ} {at : ℕ} {bytes after : List ℕ} {next : ℕ} (A
       }
 
 -- the bytes by another name
-pub appends-as : {before : List ℕ} {at : ℕ} {bytes after : List ℕ} {next : ℕ} → Appends before at bytes after next → (named : List ℕ) → bytes ≡ named
-    → Appends before at named after next
+pub appends-as : {before : List ℕ} {at : ℕ} {bytes after : List ℕ} {next : ℕ} → Appends before at bytes after next
+    → (named : List ℕ) → bytes ≡ named → Appends before at named after next
 appends-as A named e = rw e at A
 
 -- one byte
 pub appends-one : (before : List ℕ) (at b : ℕ) → at + 1 ≤ length before → Appends before at (b ∷ []) (set before at b) (at + 1)
 appends-one before at b h = record { fits = h; list = sets-eq (b ∷ []) before at h; ends = refl }
 
--- one byte after others
-pub appends-more : {before : List ℕ} {at : ℕ} {bytes after : List ℕ} (i b : ℕ) → Appends before at bytes after (at + i) → at + i + 1 ≤ length after
-    → Appends before at (bytes ++ b ∷ []) (set after (at + i) b) (at + (i + 1))
-appends-more {at = at} {after = after} i b A h =
-    let e : at + i + 1 ≡ at + (i + 1) = omega arith in
-    rw e at (then A (appends-one after (at + i) b h))
-
 -- no byte
 pub appends-none : (before : List ℕ) (at : ℕ) → at ≤ length before → Appends before at [] before at
 appends-none before at h = record {
   fits = omega arith;
-  list = sym (take-append-drop at before) ∙ ap₂ (λ (x : List ℕ) (m : ℕ). x ++ drop m before) (sym (append-nil (take at before))) (sym (add-zero at));
+  list = sym (take-append-drop at before)
+      ∙ ap₂ (λ (x : List ℕ) (m : ℕ). x ++ drop m before) (sym (append-nil (take at before))) (sym (add-zero at));
   ends = omega arith;
 }
+
+-- ---- a loop that puts bytes one after the other: i of them stand
+
+pub record Putting (before : List ℕ) (at : ℕ) (bytes : List ℕ) (i : ℕ) (after : List ℕ) : Type 0 where
+  pub within : i ≤ length bytes
+  pub fits : at + length bytes ≤ length before
+  pub long : length after ≡ length before
+  pub put : Appends before at (take i bytes) after (at + i)
+
+pub putting-start : (before : List ℕ) (at : ℕ) (bytes : List ℕ) → at + length bytes ≤ length before → Putting before at bytes 0 before
+putting-start before at bytes h = record {
+  within = omega arith;
+  fits = h;
+  long = refl;
+  put = rw add-zero (appends-none before at (omega arith));
+}
+
+module _ {before : List ℕ} {at : ℕ} {bytes : List ℕ} {i : ℕ} {after : List ℕ} (P : Putting before at bytes i after) where
+  pub putting-step : (b : ℕ) → i < length bytes → b ≡ getD bytes i 0 → Putting before at bytes (i + 1) (set after (at + i) b)
+  putting-step b h e =
+      let A = then (P .put) (appends-one after (at + i) b (omega arith)) in
+      let n : at + i + 1 ≡ at + (i + 1) = omega arith in
+      record {
+        within = omega arith;
+        fits = P .fits;
+        long = appends-length A;
+        put = rw (add-one i, take-suc bytes i 0 h, ← e, ← add-one i, ← n) A;
+      }
+
+  pub putting-end : length bytes ≤ i → Appends before at bytes after (at + i)
+  putting-end h =
+      let e : i ≡ length bytes = omega arith in
+      appends-as (P .put) bytes (ap (λ (m : ℕ). take m bytes) e ∙ take-length bytes)

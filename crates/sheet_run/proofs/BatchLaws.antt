@@ -14,7 +14,7 @@ use Rattle.coding.specs.Word.{_⊕_, weight}
 use Rattle.coding.specs.Weight.{dmin}
 use Rattle.coding.specs.Leader.{syndromeOf, leaderOf}
 use Rattle.words.specs.Limits.{maxWords, maxChecks}
-use Rattle.words.specs.Refusal.{numberOf, valueOf}
+use Rattle.words.specs.Refusal.{numberOf, valueOf, ifDone}
 use Rattle.words.specs.Accepted.{Accepted}
 use Rattle.words.specs.declared.answer.Refusal.{Refusal}
 use Rattle.words.specs.declared.answer.Answer.{Answer}
@@ -37,7 +37,8 @@ use Rattle.sheet_run.specs.Inner.Slots.{slotEnding, slotLine, slotLines}
 slot-ending : (reading : Reading) (w e : ℕ) → weight e < 255 → slotEnding (countIn (outcomeOf reading w e)) ≡ ending (outcomeOf reading w e)
 slot-ending reading w e h = go (ℕ-discrete (weight e) 0) (takes reading (weight e)) refl
   where
-    go : Dec (weight e ≡ 0) → (b : Bool) → takes reading (weight e) ≡ b → slotEnding (countIn (outcomeOf reading w e)) ≡ ending (outcomeOf reading w e)
+    go : Dec (weight e ≡ 0) → (b : Bool) → takes reading (weight e) ≡ b
+        → slotEnding (countIn (outcomeOf reading w e)) ≡ ending (outcomeOf reading w e)
     go (yes z) b q =
         let c : outcomeOf reading w e ≡ Clean w = simp (eq-eqb (weight e) 0 z) in
         ap (λ (o : Outcome). slotEnding (countIn o)) c ∙ sym (ap ending c)
@@ -85,16 +86,19 @@ module _ {n k : ℕ} {rows : List ℕ} {reading : Reading} {words : List ℕ} {r
     pub few-places : n ≤ 32
     few-places = omega (arith, accepted .range .places)
 
-    pub apart : 1 ≤ dmin rows
-    apart = distance-is n k rows accepted .bounds .0
+    -- the minimum distance beside the answer
+    pub apart : (x : ℕ) → x ≡ ifDone r (dmin rows) 0 → 1 ≤ x
+    apart x e = rw (e, d) (distance-is n k rows accepted .bounds .0)
 
     codewords-are : take (length words) out ≡ map (wordOf n rows reading) words
     codewords-are =
-        ap (take (length words)) (rw d at (D .codewords)) ∙ take-at (map (wordOf n rows reading) words) _ (length words) (length-map words (wordOf n rows reading))
+        ap (take (length words)) (rw d at (D .codewords))
+        ∙ take-at (map (wordOf n rows reading) words) _ (length words) (length-map words (wordOf n rows reading))
 
     counts-are : take (length words) counts ≡ map (countOf n rows reading) words
     counts-are =
-        ap (take (length words)) (rw d at (D .distances)) ∙ take-at (map (countOf n rows reading) words) _ (length words) (length-map words (countOf n rows reading))
+        ap (take (length words)) (rw d at (D .distances))
+        ∙ take-at (map (countOf n rows reading) words) _ (length words) (length-map words (countOf n rows reading))
 
     pub codewords-length : length (take (length words) out) ≡ length words
     codewords-length = ap length codewords-are ∙ length-map words (wordOf n rows reading)
@@ -108,9 +112,10 @@ module _ {n k : ℕ} {rows : List ℕ} {reading : Reading} {words : List ℕ} {r
     pub counts-room : length words ≤ length counts
     counts-room = omega (arith, counts-length, length-take (length words) counts)
 
-    pub done-output : (d′ : ℕ) → d′ ≡ dmin rows
-        → codeLine n k d′ ++ slotLines n (take (length words) out) (take (length words) counts) ≡ batchOutput n k rows reading words
+    pub done-output : (x : ℕ) → x ≡ ifDone r (dmin rows) 0
+        → codeLine n k x ++ slotLines n (take (length words) out) (take (length words) counts) ≡ batchOutput n k rows reading words
     unfolding batchOutput
-    done-output d′ e =
-        ap₂ (λ (x : ℕ) (l : List ℕ). codeLine n k x ++ l) e (ap₂ (slotLines n) codewords-are counts-are ∙ slot-lines n k rows accepted reading words)
+    done-output x e =
+        ap₂ (λ (y : ℕ) (l : List ℕ). codeLine n k y ++ l) (rw d at e)
+        (ap₂ (slotLines n) codewords-are counts-are ∙ slot-lines n k rows accepted reading words)
         ∙ ap (λ (a : Answer). linesOf a n k rows reading words) (sym d ∙ answer-is)

@@ -76,11 +76,13 @@ module _ (n k : ℕ) (reading : Reading) where
   pub cut-output : (rows words : List ℕ) → batchOutput n k (take 33 rows) reading (take 513 words) ≡ batchOutput n k rows reading words
   cut-output rows words = go (decLe (length rows) 33) (decLe (length words) 513)
     where
-      go : Dec (length rows ≤ 33) → Dec (length words ≤ 513) → batchOutput n k (take 33 rows) reading (take 513 words) ≡ batchOutput n k rows reading words
+      go : Dec (length rows ≤ 33) → Dec (length words ≤ 513)
+          → batchOutput n k (take 33 rows) reading (take 513 words) ≡ batchOutput n k rows reading words
       go (no r) w =
           let (c, e) = unless-refused (inRange n k) OutOfRange RowCount in
           let long : length (take 33 rows) ≡ 33 = length-take-le 33 rows (omega arith) in
-          same-output (take 33 rows) (take 513 words) rows words c (many-rows (take 33 rows) (take 513 words) c (omega arith) e) (many-rows rows words c (omega arith) e)
+          same-output (take 33 rows) (take 513 words) rows words c (many-rows (take 33 rows) (take 513 words) c (omega arith) e)
+          (many-rows rows words c (omega arith) e)
       go (yes r) (yes w) = rw (take-all 33 rows r, take-all 513 words w) refl
       go (yes r) (no w) =
           let (c, e) = before-refused rows in

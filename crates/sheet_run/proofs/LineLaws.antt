@@ -1,5 +1,5 @@
 -- Laws of the lines: the parts that the writers put, one after the other, are the line. Assumes nothing.
-use mathlib.Core.Path.{_≡_, refl, sym, ap, ap₂, _∙_}
+use mathlib.Core.Path.{_≡_, sym, ap, ap₂, _∙_}
 use mathlib.Core.List.{List, [], _∷_, _++_, append-assoc, append-nil}
 use Prim.Native.Nat.{ℕ, zero, suc, _+_, _-_, _/_, _<_}
 use native.Mathlib.Nat.{le-of-suc-le-suc}
@@ -8,17 +8,20 @@ use native.Mathlib.Omega.{arith}
 use lib.ListN.{length, getD, take}
 use lib.Seq.{take-length}
 use Rattle.coding.specs.Word.{bit}
-use Rattle.coding.proofs.ListLaws.{length-tabulate}
+use Rattle.coding.proofs.ListLaws.{length-tabulate, getD-tabulate}
 use Rattle.sheet_run.specs.Decimal.{digit, decimal}
 use Rattle.sheet_run.specs.Output.{space, lineFeed, refusedText, refusedLine, codeLine, digitsOf}
+use Rattle.sheet_run.specs.Inner.Appended.{Appends}
 use Rattle.sheet_run.specs.Inner.Slots.{slotEnding, slotLine, slotLines}
 
-pub refused-parts : (number value : ℕ) → (refusedText ++ space ∷ []) ++ (decimal number ++ space ∷ []) ++ (decimal value ++ lineFeed ∷ []) ≡ refusedLine number value
+pub refused-parts : (number value : ℕ)
+    → (refusedText ++ space ∷ []) ++ (decimal number ++ space ∷ []) ++ (decimal value ++ lineFeed ∷ []) ≡ refusedLine number value
 unfolding refusedLine
 refused-parts number value = simp append-assoc
 
 pub code-parts : (n k d : ℕ)
-    → (decimal n ++ space ∷ []) ++ (decimal k ++ space ∷ []) ++ (decimal d ++ space ∷ []) ++ (decimal ((d - 1) / 2) ++ lineFeed ∷ []) ≡ codeLine n k d
+    → (decimal n ++ space ∷ []) ++ (decimal k ++ space ∷ []) ++ (decimal d ++ space ∷ [])
+    ++ (decimal ((d - 1) / 2) ++ lineFeed ∷ []) ≡ codeLine n k d
 unfolding codeLine
 code-parts n k d = simp append-assoc
 
@@ -29,6 +32,15 @@ slot-parts n c count = simp append-assoc
 pub length-digits : (n w : ℕ) → length (digitsOf n w) ≡ n
 unfolding digitsOf
 length-digits n w = length-tabulate (λ i. digit (bit w i)) n
+
+-- after the digits
+pub digits-end : (n w : ℕ) {before : List ℕ} {at : ℕ} {after : List ℕ} {next : ℕ} → Appends before at (digitsOf n w) after next
+    → next ≡ at + n
+digits-end n w A = omega (arith, length-digits n w)
+
+pub digit-of : (n w p : ℕ) → p < n → getD (digitsOf n w) p 0 ≡ digit (bit w p)
+unfolding digitsOf
+digit-of n w p h = getD-tabulate (λ i. digit (bit w i)) n p h
 
 -- a line more
 slot-lines-suc : (n i : ℕ) (cs ds : List ℕ) → i < length cs → i < length ds
@@ -45,9 +57,6 @@ pub slot-lines-more : (n i : ℕ) (cs ds : List ℕ) → i < length cs → i < l
     → slotLines n (take i cs) (take i ds) ++ slotLine n (getD cs i 0) (getD ds i 0) ≡ slotLines n (take (i + 1) cs) (take (i + 1) ds)
 slot-lines-more n i cs ds h k = rw add-one (slot-lines-suc n i cs ds h k)
 
-pub slot-lines-none : (n : ℕ) (cs ds : List ℕ) → [] ≡ slotLines n (take 0 cs) (take 0 ds)
-unfolding slotLines
-slot-lines-none n cs ds = refl
-
 pub slot-lines-all : (n i : ℕ) (cs ds : List ℕ) → i ≡ length cs → i ≡ length ds → slotLines n (take i cs) (take i ds) ≡ slotLines n cs ds
-slot-lines-all n i cs ds e f = ap₂ (slotLines n) (ap (λ (m : ℕ). take m cs) e ∙ take-length cs) (ap (λ (m : ℕ). take m ds) f ∙ take-length ds)
+slot-lines-all n i cs ds e f =
+    ap₂ (slotLines n) (ap (λ (m : ℕ). take m cs) e ∙ take-length cs) (ap (λ (m : ℕ). take m ds) f ∙ take-length ds)

@@ -15,8 +15,8 @@ use Rattle.sheet.specs.declared.answer.SheetAnswer.{SheetAnswer}
 use Rattle.sheet_run.proofs.AppendLaws.{appends-end}
 
 module _ (sheet before : List ℕ) where
-  pub ran : {a : SheetAnswer} {r : ℕ} {after : List ℕ} → maxOutput ≤ length before → a ≡ sheetOf sheet → Appends before 0 (printed sheet a) after r
-      → Ran sheet before r after
+  pub ran : {a : SheetAnswer} {r : ℕ} {after : List ℕ} → maxOutput ≤ length before → a ≡ sheetOf sheet
+      → Appends before 0 (printed sheet a) after r → Ran sheet before r after
   unfolding outputOf
   ran {a} {r} {after} h e A =
       let B : Appends before 0 (outputOf sheet) after r = rw e at A in

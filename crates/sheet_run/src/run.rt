@@ -66,7 +66,8 @@ fn run_batch(n: u32, k: u32, rows: &[u32], reading: Reading, words: &[u32], out:
 
 // Rows and words are copied from the bytes, as many as a batch may have and one more.
 fn run_sheet(bytes: &[u8], s: Sheet, out: &mut [u8]) -> usize
-    requires { ⌜ (maxOutput ≤ length (now out)) × (s .rows .at + 4 * s .rows .count ≤ length (now bytes)) × (s .words .at + 4 * s .words .count ≤ length (now bytes)) ⌝ }
+    requires { ⌜ (maxOutput ≤ length (now out)) × (s .rows .at + 4 * s .rows .count ≤ length (now bytes))
+        × (s .words .at + 4 * s .words .count ≤ length (now bytes)) ⌝ }
     ensures { λ r. ⌜ Appends (now (out .entry)) 0 (printed (now (bytes .entry)) (SheetAnswer.Read s)) (now (out .exit)) r ⌝ }
 {
     let mut rows = [0u32; ROWS_READ];

@@ -1,17 +1,10 @@
 -- `vectors_sheet::main` is safe and ends. Assumes nothing.
-use Prim.Native.Nat.{_≤_}
 use borrow.Author.Needs.{needs}
 use Rattle.vectors_sheet.proofs.main.Statement.{statement}
 use Rattle.vectors_sheet.proofs.main.Tie as tie
 
-abbrev Inv-loop : tie.InvT-loop
-Inv-loop left₀ left = left ≤ left₀
-
-abbrev μ-loop : tie.MeasureT-loop
-μ-loop left₀ left = left
-
 pub main-spec : {M : Type 1} → statement M
 main-spec =
     tie.close
-    (tie.spec Inv-loop μ-loop (λ c. search needs) (λ c κs. search needs) (λ c. search needs) (λ c. search needs) (λ c. search needs)
-    (λ c. search needs) (λ c. search needs))
+    (tie.spec (λ left₀ left. Unit {0}) (λ left₀ left. left) (λ c. search needs) (λ c κs. search needs) (λ c. search needs)
+    (λ c. search needs) (λ c. search needs) (λ c. search needs) (λ c. search needs))

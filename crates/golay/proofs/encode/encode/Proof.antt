@@ -11,9 +11,6 @@ use borrow.Author.Needs.{needs}
 use Rattle.golay.proofs.encode.encode.Statement.{statement}
 use Rattle.golay.proofs.encode.encode.Tie as tie
 
-returns : tie.Need-returns
-returns c = encode-refused (c .before .before .args .message) (sym (c .before .fits2 .ensures) ∙ not-true _ (c .if1 .taken))
-
 returns-2 : tie.Need-returns-2
 returns-2 c =
     let u = c .before .before .before .args .message in
@@ -21,4 +18,7 @@ returns-2 c =
     encode-done u t _ (ap₂ _⊕_ (shl-exact 12 12 32 (ltb-true u (2 ^ 12) t) (lit≤ tt)) (c .check-sum .ensures))
 
 pub encode-spec : {M : Type 1} → statement M
-encode-spec = tie.close (tie.spec (λ c κs. search needs) returns (λ c κs. search needs) returns-2)
+encode-spec =
+    tie.close
+    (tie.spec (λ c κs. search needs) (λ c. encode-refused _ (sym (c .before .fits2 .ensures) ∙ not-true _ (c .if1 .taken)))
+    (λ c κs. search needs) returns-2)

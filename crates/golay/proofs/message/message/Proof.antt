@@ -1,23 +1,21 @@
 -- `golay::message::message`: the syndrome tells the codewords, and the shift leaves the message places. Assumes nothing.
-use mathlib.Core.Path.{sym, _∙_}
+use mathlib.Core.Path.{_≡_, sym, _∙_}
+use mathlib.Core.Bool.{true}
+use Prim.Native.Nat.{_^_}
+use lib.Dec.{ltb}
 use borrow.Author.Tests.{not-true, not-false}
 use Rattle.golay.proofs.GolayDecodeLaws.{read-outside, read-refused, read-done}
 use borrow.Author.Needs.{needs}
 use Rattle.golay.proofs.message.message.Statement.{statement}
 use Rattle.golay.proofs.message.message.Tie as tie
 
-returns : tie.Need-returns
-returns c = read-outside (c .before .before .args .word) (sym (c .before .fits2 .ensures) ∙ not-true _ (c .if1 .taken))
-
-returns-2 : tie.Need-returns-2
-returns-2 c =
-    let f = c .before .before .before in
-    read-refused (f .before .args .word) (sym (f .fits2 .ensures) ∙ not-false _ (c .before .before .if1 .left)) (λ z. c .if2 .taken (c .before .syndrome .ensures ∙ z))
-
-returns-3 : tie.Need-returns-3
-returns-3 c =
-    let f = c .before .before .before in
-    read-done (f .before .args .word) (sym (f .fits2 .ensures) ∙ not-false _ (c .before .before .if1 .left)) (sym (c .before .syndrome .ensures) ∙ c .if2 .left)
+-- a word that is not refused has 24 places
+fits : (c : tie.Else1) → ltb (c .before .before .args .word) (2 ^ 24) ≡ true
+fits c = sym (c .before .fits2 .ensures) ∙ not-false _ (c .if1 .left)
 
 pub message-spec : {M : Type 1} → statement M
-message-spec = tie.close (tie.spec (λ c κs. search needs) returns (λ c κs. search needs) returns-2 returns-3)
+message-spec =
+    tie.close
+    (tie.spec (λ c κs. search needs) (λ c. read-outside _ (sym (c .before .fits2 .ensures) ∙ not-true _ (c .if1 .taken)))
+    (λ c κs. search needs) (λ c. read-refused _ (fits (c .before .before)) (λ z. c .if2 .taken (c .before .syndrome .ensures ∙ z)))
+    (λ c. read-done _ (fits (c .before .before)) (sym (c .before .syndrome .ensures) ∙ c .if2 .left)))

@@ -1,6 +1,6 @@
 -- `golay::nearby::near_row`: the constants are lanes of P, so the lowest lane that reaches 16 is the first near row. Assumes nothing.
 use mathlib.Core.Path.{ap, ap₂, _∙_}
-use Prim.Native.Nat.{ℕ, _≤_, _<_, _-_, _+_, _*_, _/_, _^_}
+use Prim.Native.Nat.{ℕ, _≤_, _-_, _+_, _*_, _/_}
 use native.Mathlib.Omega.{arith}
 use lib.Bits.{bitAnd}
 use lib.Count.{ones-le, trailingZeros}
@@ -10,11 +10,9 @@ use borrow.Author.Needs.{needs}
 use Rattle.golay.proofs.nearby.near_row.Statement.{statement}
 use Rattle.golay.proofs.nearby.near_row.Tie as tie
 
-few : (s : ℕ) → s < 2 ^ 12 → weight s ≤ 12
-few s h = ones-le 12 s h
-
-add-reached : tie.Need-add-reached
-add-reached c = omega (arith, c .overlaps .ensures, overlaps-lt (c .before .args .s) (c .before .pre))
+-- s has 12 places
+few : (s : tie.Start) → weight (s .args .s) ≤ 12
+few s = ones-le 12 (s .args .s) (s .pre)
 
 returns : tie.Need-returns
 returns c =
@@ -26,6 +24,5 @@ returns c =
 pub near-row-spec : {M : Type 1} → statement M
 near-row-spec =
     tie.close
-    (tie.spec (λ c. omega (arith, few (c .args .s) (c .pre))) (λ c κs. search needs)
-    (λ c. omega (arith, few (c .before .args .s) (c .before .pre))) (λ c. omega (arith, few (c .before .args .s) (c .before .pre)))
-    add-reached returns)
+    (tie.spec (λ c. omega (arith, few c)) (λ c κs. search needs) (λ c. omega (arith, few (c .before)))
+    (λ c. omega (arith, few (c .before))) (λ c. omega (arith, overlaps-lt (c .before .args .s) (c .before .pre))) returns)

@@ -32,9 +32,11 @@ step sum m j h total e =
     omega (arith, e, e′, overlap-next j m golayChecks)
 
 -- and the sum stays below 2 ^ 60
-step-lt : (s sum m j : ℕ) → s < 2 ^ 12 → j < 12 → sum + left m j ≡ lanes (λ p. weight (bitAnd s p)) golayChecks
-    → sum + getD placeWords j 0 * bitAnd m 1 < 2 ^ 60
-step-lt s sum m j hs h e = lt-of-le-of-lt (omega (arith, step sum m j h _ e)) (overlaps-lt s hs)
+step-lt : (c : tie.In-loop Inv-loop μ-loop) → let l = c .before .loop in l .sum + getD placeWords (l .j) 0 * bitAnd (l .m) 1 < 2 ^ 60
+step-lt c =
+    let l = c .before .loop in
+    let s = c .before .before in
+    lt-of-le-of-lt (omega (arith, step (l .sum) (l .m) (l .j) (c .loop-test .taken) _ (l .inv .2))) (overlaps-lt (s .args .s) (s .pre))
 
 loop-holds : tie.Need-loop-holds Inv-loop μ-loop
 loop-holds c = (
@@ -43,18 +45,6 @@ loop-holds c = (
   zero-add (left (c .args .s) 0) ∙ lanes-same (λ p. weight (bitAnd (c .args .s) (p / 2 ^ 0))) (λ p. weight (bitAnd (c .args .s) p)) golayChecks
       (λ i l. ap (λ (x : ℕ). weight (bitAnd (c .args .s) x)) (div-one (getD golayChecks i 0))),
 )
-
-mul-sum-2 : tie.Need-mul-sum-2 Inv-loop μ-loop
-unfolding placeWords
-mul-sum-2 c =
-    let l = c .before .loop in
-    omega (arith, step-lt (c .before .before .args .s) (l .sum) (l .m) (l .j) (c .before .before .pre) (c .loop-test .taken) (l .inv .2))
-
-add-sum : tie.Need-add-sum Inv-loop μ-loop
-unfolding placeWords
-add-sum c =
-    let l = c .before .loop in
-    omega (arith, step-lt (c .before .before .args .s) (l .sum) (l .m) (l .j) (c .before .before .pre) (c .loop-test .taken) (l .inv .2))
 
 loop-again : tie.Need-loop-again Inv-loop μ-loop
 unfolding placeWords
@@ -74,7 +64,8 @@ returns c =
     omega (arith, rest, l .inv .2)
 
 pub overlaps-spec : {M : Type 1} → statement M
+unfolding placeWords
 overlaps-spec =
     tie.close
-    (tie.spec Inv-loop μ-loop loop-holds (λ c. search needs) (λ c. search needs) mul-sum-2 add-sum (λ c. search needs)
-    (λ c. search needs) loop-again returns)
+    (tie.spec Inv-loop μ-loop loop-holds (λ c. search needs) (λ c. search needs) (λ c. omega (arith, step-lt c))
+    (λ c. omega (arith, step-lt c)) (λ c. search needs) (λ c. search needs) loop-again returns)

@@ -1,14 +1,13 @@
 -- `golay::rows::check_sum`: the sum so far, and the rows from i on with what is left of the message, make the sum. Assumes nothing.
-use mathlib.Core.Path.{_≡_, sym, ap, _∙_}
-use mathlib.Core.List.{List}
-use Prim.Native.Nat.{ℕ, _≤_, _<_, _-_, _+_, _/_, _%_}
+use mathlib.Core.Path.{_≡_, ap, _∙_}
+use Prim.Native.Nat.{ℕ, _≤_, _-_, _+_, _/_, _%_}
 use lib.ListN.{getD, drop}
 use lib.Bits.{xor-zero-l}
 use Rattle.coding.specs.Word.{_⊕_}
 use Rattle.coding.specs.Matrix.{sel, encode}
 use Rattle.coding.proofs.MatrixLaws.{encode-step, encode-end}
 use Rattle.golay_code.specs.Golay.{golayChecks}
-use Rattle.golay_code.proofs.GolayLaws.{checkWords, checks-are, golay-size}
+use Rattle.golay_code.proofs.GolayLaws.{checkWords, check-word, golay-size}
 use borrow.Author.Needs.{needs}
 use Rattle.golay.proofs.rows.check_sum.Statement.{statement}
 use Rattle.golay.proofs.rows.check_sum.Tie as tie
@@ -23,14 +22,12 @@ loop-again : tie.Need-loop-again Inv-loop μ-loop
 unfolding checkWords
 loop-again c =
     let l = c .before .before .loop in
-    let less : l .i < 12 = c .before .loop-test .taken in (
+    let row : c .selected .result ≡ sel (l .m % 2) (getD golayChecks (l .i) 0)
+    = c .selected .ensures ∙ ap (sel (l .m % 2)) (check-word (l .i)) in (
       search needs,
-      ap (λ (x : ℕ). l .sum ⊕ x ⊕ encode (drop (l .i + 1) golayChecks) (l .m / 2)) (c .selected .ensures ∙ row (l .i) (l .m))
-          ∙ encode-step golayChecks (l .i) (l .m) (l .sum) _ (rw golay-size less) (l .inv .1),
+      ap (λ (x : ℕ). l .sum ⊕ x ⊕ encode (drop (l .i + 1) golayChecks) (l .m / 2)) row
+          ∙ encode-step golayChecks (l .i) (l .m) (l .sum) _ (rw golay-size (c .before .loop-test .taken)) (l .inv .1),
     )
-  where
-    row : (i m : ℕ) → sel (m % 2) (getD checkWords i 0) ≡ sel (m % 2) (getD golayChecks i 0)
-    row i m = ap (λ (l : List ℕ). sel (m % 2) (getD l i 0)) (sym checks-are)
 
 returns : tie.Need-returns Inv-loop μ-loop
 returns c =

@@ -6,8 +6,6 @@ use borrow.Author.Needs.{needs}
 use Rattle.golay.proofs.rows.syndrome.Statement.{statement}
 use Rattle.golay.proofs.rows.syndrome.Tie as tie
 
-returns : tie.Need-returns
-returns c = ap₂ _⊕_ (and-mask (c .before .args .word) 12) (c .check-sum .ensures)
-
 pub syndrome-spec : {M : Type 1} → statement M
-syndrome-spec = tie.close (tie.spec (λ c κs. search needs) returns)
+syndrome-spec =
+    tie.close (tie.spec (λ c κs. search needs) (λ c. ap₂ _⊕_ (and-mask (c .before .args .word) 12) (c .check-sum .ensures)))

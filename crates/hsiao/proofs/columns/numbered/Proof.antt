@@ -3,7 +3,6 @@ use mathlib.Core.Path.{_≡_, refl, sym, ap, _∙_}
 use mathlib.Core.Logic.{⊎-elim}
 use mathlib.Core.Bool.{Bool, false, cond}
 use Prim.Native.Nat.{ℕ, suc, _≤_, _<_, _-_, _+_}
-use native.Mathlib.Nat.{zero-add}
 use native.Mathlib.Omega.{arith}
 use lib.Dec.{eqb, ltb}
 use lib.ListN.{length, getD}
@@ -11,7 +10,7 @@ use borrow.Author.Tests.{eq-eqb, ne-eqb}
 use Rattle.coding.specs.Lists.{first}
 use Rattle.hsiao.specs.Table.{columns}
 use Rattle.hsiao.proofs.HsiaoTableLaws.{columns-odd, columns-length}
-use Rattle.hsiao.proofs.PlaceLaws.{numberBelow, number-none, number-found, number-passed}
+use Rattle.hsiao.proofs.PlaceLaws.{numberBelow, number-hit, number-passed}
 use borrow.Author.Needs.{needs}
 use Rattle.hsiao.proofs.columns.numbered.Statement.{statement}
 use Rattle.hsiao.proofs.columns.numbered.Tie as tie
@@ -33,36 +32,31 @@ none-before s i h e j l =
     let ne : getD columns j 0 ≡ s → ⊥ = λ z. absurd (omega (arith, columns-odd .different j i (omega arith) k (z ∙ sym e))) in
     ne-eqb (getD columns j 0) s ne
 
+-- so its number is all that is counted
+counted : (c : tie.In-loop Inv-loop μ-loop)
+    → let l = c .before .loop in
+    let s = c .before .before .args .s in
+    getD columns (l .i) 0 ≡ s → (l .n ≡ 0) × (l .n + (l .i + 1) ≡ numberBelow (hit s) (l .i + 1))
+counted c e = number-hit _ _ (c .before .loop .inv .1) (none-before _ _ (c .loop-test .taken) e) (eq-eqb _ _ e)
+
 add-n-2 : tie.Need-add-n-2 Inv-loop μ-loop
 unfolding columns
-add-n-2 c =
-    let l = c .before .before .loop in
-    let s = c .before .before .before .args .s in
-    let i : l .i < 64 = c .before .loop-test .taken in
-    let z : numberBelow (hit s) (l .i) ≡ 0 = number-none (hit s) (l .i) (none-before s (l .i) i (c .if1 .taken)) in
-    record { fits = omega (arith, l .inv .1) }
+add-n-2 c = record { fits = omega (arith, counted (c .before) (c .if1 .taken)) }
 
 loop-again : tie.Need-loop-again Inv-loop μ-loop
 unfolding columns
 loop-again c =
-    let l = c .before .before .loop in
-    let s = c .before .before .before .args .s in
-    let i : l .i < 64 = c .before .loop-test .taken in (
+    let l = c .before .before .loop in (
       omega arith,
-      ⊎-elim
-          (λ w.
-          let none : (j : ℕ) → j < l .i → hit s j ≡ false = none-before s (l .i) i (w .0 .taken) in
-          w .1 ∙ ap (λ (n : ℕ). n + (l .i + 1)) (l .inv .1 ∙ number-none (hit s) (l .i) none) ∙ zero-add (l .i + 1)
-          ∙ sym (number-found (hit s) (l .i) none (eq-eqb _ _ (w .0 .taken))))
-          (λ w. w .1 ∙ l .inv .1 ∙ sym (number-passed (hit s) (l .i) (ne-eqb _ _ (w .0 .left))))
-          (c .if1 .came),
+      ⊎-elim (λ w. w .1 ∙ counted (c .before) (w .0 .taken) .1)
+          (λ w. w .1 ∙ l .inv .1 ∙ sym (number-passed _ (l .i) (ne-eqb _ _ (w .0 .left)))) (c .if1 .came),
     )
 
 returns : tie.Need-returns Inv-loop μ-loop
 returns c =
     let l = c .before .loop in
     let s = c .before .before .args .s in
-    let e : l .i ≡ 64 = omega (arith, c .loop-test .left, l .inv .0) in
+    let e : l .i ≡ 64 = omega arith in
     l .inv .1 ∙ ap (numberBelow (hit s)) e ∙ ap (λ (m : ℕ). cond (ltb (first (hit s) m) 64) (suc (first (hit s) m)) 0) (sym columns-length)
 
 pub numbered-spec : {M : Type 1} → statement M

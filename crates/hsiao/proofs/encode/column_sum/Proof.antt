@@ -17,21 +17,15 @@ Inv-loop bits s₀ k₀ s k = (k ≤ 8) × (s ≡ turnedSum (drop k diagonals) b
 abbrev μ-loop : tie.MeasureT-loop
 μ-loop bits s₀ k₀ s k = k
 
-loop-holds : tie.Need-loop-holds Inv-loop μ-loop
-unfolding columns diagonals
-loop-holds c = (search needs, refl)
-
 loop-again : tie.Need-loop-again Inv-loop μ-loop
 unfolding columns diagonals
 loop-again c =
     let l = c .before .loop in
-    let x = c .before .before .args .bits in
-    let e : turnedSum (drop (l .k - 1) diagonals) x ≡ turn (turnedSum (drop (l .k) diagonals) x) ⊕ bitAnd x (getD diagonals (l .k - 1) 0) =
-    turned-step diagonals (l .k) x (c .loop-test .taken) (rw diagonals-length (l .inv .0)) in
-    (omega (arith, l .inv .0), ap (λ (s : ℕ). turn s ⊕ bitAnd x (getD diagonals (l .k - 1) 0)) (l .inv .1) ∙ sym e)
-
-cast-result : tie.Need-cast-result Inv-loop μ-loop
-cast-result c = record { fits = mask-lt (onto 8 (onto 16 (onto 32 (c .before .loop .s)))) 8 }
+    let x = c .before .before .args .bits in (
+      omega arith,
+      ap (λ (s : ℕ). turn s ⊕ bitAnd x (getD diagonals (l .k - 1) 0)) (l .inv .1)
+          ∙ sym (turned-step diagonals (l .k) x (c .loop-test .taken) (rw diagonals-length (l .inv .0))),
+    )
 
 returns : tie.Need-returns Inv-loop μ-loop
 returns c =
@@ -41,7 +35,8 @@ returns c =
     ∙ diagonal-sum (c .before .before .args .bits) (c .before .before .fits .bits .fits)
 
 pub column-sum-spec : {M : Type 1} → statement M
+unfolding diagonals
 column-sum-spec =
     tie.close
-    (tie.spec Inv-loop μ-loop loop-holds (λ c. search needs) (λ c. search needs) (λ c. search needs) (λ c. search needs) loop-again
-    cast-result returns)
+    (tie.spec Inv-loop μ-loop (λ c. (search needs, refl)) (λ c. search needs) (λ c. search needs) (λ c. search needs) (λ c. search needs) loop-again
+    (λ c. record { fits = mask-lt (onto 8 (onto 16 (onto 32 (c .before .loop .s)))) 8 }) returns)

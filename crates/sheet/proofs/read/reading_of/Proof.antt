@@ -6,11 +6,8 @@ use borrow.Author.Needs.{needs}
 use Rattle.sheet.proofs.read.reading_of.Statement.{statement}
 use Rattle.sheet.proofs.read.reading_of.Tie as tie
 
-returns : tie.Need-returns
-returns c = no-radius (c .before .args .radius) (c .match .keys2)
-
-returns-2 : tie.Need-returns-2
-returns-2 c = ap readingOf (sym (c .before .radius .given .1))
-
 pub reading-of-spec : {M : Type 1} → statement M
-reading-of-spec = tie.close (tie.spec (λ c. search needs) returns (λ c. search needs) returns-2)
+reading-of-spec =
+    tie.close
+    (tie.spec (λ c. search needs) (λ c. no-radius (c .before .args .radius) (c .match .keys2)) (λ c. search needs)
+    (λ c. ap readingOf (sym (c .before .radius .given .1))))

@@ -1,53 +1,40 @@
 -- `sheet_run::load::load`: the first i words are copied, the later slots are as they were. Assumes nothing.
-use mathlib.Core.Path.{_≡_, refl, sym, ap, _∙_}
-use mathlib.Core.List.{List, _++_}
-use Prim.Native.Nat.{ℕ, _-_, _≤_, _<_, min}
+use Prim.Native.Nat.{ℕ, _+_, _-_, _*_, _≤_}
 use native.Mathlib.Omega.{arith}
 use borrow.Author.Needs.{needs}
-use lib.ListN.{length, drop, set, length-set}
-use Rattle.coding.proofs.LoopLaws.{over, over-set}
-use Rattle.sheet.specs.Words.{wordsAt}
-use Rattle.sheet.proofs.SpanLaws.{words-cut, length-words, word-of}
+use Rattle.coding.proofs.LoopLaws.{Over, over-start, over-tabulate-step, over-tabulate-end}
+use Rattle.sheet.specs.Words.{wordAt, wordsAt}
 use Rattle.sheet_run.proofs.load.load.Statement.{statement}
 use Rattle.sheet_run.proofs.load.load.Tie as tie
 
 abbrev Inv-loop : tie.InvT-loop
-Inv-loop bytes from count list₀ m i₀ list i =
-    (i ≤ m) × (m ≡ min count (length list₀)) × (length list ≡ length list₀) × (list ≡ over (wordsAt bytes from count) list₀ i)
+Inv-loop bytes from count list₀ m i₀ list i = (i ≤ m) × Over (wordsAt bytes from m) list₀ i list
 
 abbrev μ-loop : tie.MeasureT-loop
 μ-loop bytes from count list₀ m i₀ list i = m - i
 
+abbrev start : tie.At-loop Inv-loop μ-loop → tie.Start Inv-loop μ-loop
+start l = l .before .before .before .before
+
+-- the words from the position on
+abbrev word : tie.Start Inv-loop μ-loop → ℕ → ℕ
+word s j = wordAt (s .args .bytes .now) (s .args .from + 4 * j)
+
 loop-again : tie.Need-loop-again Inv-loop μ-loop
+unfolding wordsAt
 loop-again c =
-    let l = c .before .before .loop in
-    let a = c .before .before .before .before .before .before .args in
-    let few : l .i < a .count = omega arith in (
-      omega arith,
-      l .inv .1,
-      simp length-set (l .inv .2),
-      ap (λ (x : List ℕ). set x (l .i) (c .word-at .result)) (l .inv .3)
-          ∙ over-set (wordsAt (a .bytes .now) (a .from) (a .count)) (a .list .now) (l .i) _ (rw (length-words (a .bytes .now) (a .from) (a .count)) few) (omega arith)
-          (c .word-at .ensures ∙ sym (word-of (a .bytes .now) (a .from) (a .count) (l .i) few)),
-    )
+    let l = c .before .before in
+    (omega arith, over-tabulate-step (word (start l)) _ (l .loop .inv .1) _ (c .before .loop-test .taken) (omega arith) (c .word-at .ensures))
 
 returns : tie.Need-returns Inv-loop μ-loop
+unfolding wordsAt
 returns c =
-    let l = c .before .loop in
-    let a = c .before .before .before .before .before .args in
-    let e : l .i ≡ c .before .before .smaller .result = omega arith in
-    record {
-      copied = c .before .before .smaller .ensures;
-      list =
-          l .inv .3 ∙ ap (over (wordsAt (a .bytes .now) (a .from) (a .count)) (a .list .now)) e
-          ∙ ap (λ (x : List ℕ). x ++ drop (c .before .before .smaller .result) (a .list .now)) (sym (words-cut (a .bytes .now) (a .from) (a .count) (c .before .before .smaller .result) (omega arith)));
-    }
+    let m = c .before .before .smaller in
+    record { copied = m .ensures; list = over-tabulate-end (word (start (c .before))) (m .result) (c .before .loop .inv .1) (omega arith) }
 
 pub load-spec : {M : Type 1} → statement M
 load-spec =
     tie.close
-    (tie.spec Inv-loop μ-loop (λ c κs. search needs) (λ c. (search needs, c .smaller .ensures, refl, refl))
-    (λ c. omega (arith, c .before .before .before .before .before .pre))
-    (λ c. omega (arith, c .before .before .before .before .before .pre))
-    (λ c κs. omega (arith, c .before .before .before .before .before .pre)) (λ c. search needs) (λ c. search needs) (λ c. search needs)
-    (λ c. search needs) loop-again (λ c. c .before .loop .inv .2) returns)
+    (tie.spec Inv-loop μ-loop (λ c κs. search needs) (λ c. (search needs, over-start _ _)) (λ c. search needs) (λ c. search needs)
+    (λ c κs. search needs) (λ c. search needs) (λ c. search needs) (λ c. search needs) (λ c. search needs) loop-again
+    (λ c. search needs) returns)

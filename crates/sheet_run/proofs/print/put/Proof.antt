@@ -4,8 +4,5 @@ use borrow.Author.Needs.{needs}
 use Rattle.sheet_run.proofs.print.put.Statement.{statement}
 use Rattle.sheet_run.proofs.print.put.Tie as tie
 
-returns : tie.Need-returns
-returns c = appends-one (c .args .out .now) (c .args .at) (c .args .b) (c .pre)
-
 pub put-spec : {M : Type 1} → statement M
-put-spec = tie.close (tie.spec (λ c. search needs) (λ c. search needs) (λ c. search needs) returns)
+put-spec = tie.close (tie.spec (λ c. search needs) (λ c. search needs) (λ c. search needs) (λ c. appends-one _ _ _ (c .pre)))

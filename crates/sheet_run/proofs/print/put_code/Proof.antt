@@ -6,14 +6,27 @@ use borrow.Author.Needs.{needs}
 use Rattle.sheet_run.proofs.print.put_code.Statement.{statement}
 use Rattle.sheet_run.proofs.print.put_code.Tie as tie
 
+-- the numbers put so far, the last first
+abbrev third : tie.After-put-number4 → tie.After-put-number3
+third c = c .before .before .before .before
+
+abbrev second : tie.After-put-number3 → tie.After-put-number2
+second c = c .before .before .before .before
+
+abbrev first : tie.After-put-number2 → tie.After-put-number
+first c = c .before .before .before .before
+
 returns : tie.Need-returns
 returns c =
-    let a = c .before .before .before .before .before .before .before .before .before .before .before .before .before .before .before .before .before .args in
-    let N = c .before .before .put-number4 .ensures in (
+    let t = c .before .before in
+    let d = third t in
+    let k = second d in
+    let n = first k in
+    let a = n .before .before .before .args in (
       appends-as
-          (then (then (then (c .before .before .before .before .before .before .before .before .before .before .before .before .before .before .put-number .ensures .0) (c .before .before .before .before .before .before .before .before .before .before .put-number2 .ensures .0)) (c .before .before .before .before .before .before .put-number3 .ensures .0)) (c .before .before .put-number4 .ensures .0))
+          (then (then (then (n .put-number .ensures .0) (k .put-number2 .ensures .0)) (d .put-number3 .ensures .0)) (t .put-number4 .ensures .0))
           _ (code-parts (a .n) (a .k) (a .d)),
-      omega (arith, N .1, c .before .before .before .before .before .before .put-number3 .ensures .1, c .before .before .before .before .before .before .before .before .before .before .put-number2 .ensures .1, c .before .before .before .before .before .before .before .before .before .before .before .before .before .before .put-number .ensures .1),
+      omega arith,
     )
 
 pub put-code-spec : {M : Type 1} → statement M

@@ -1,28 +1,26 @@
 -- `sheet_run::print::put_number`: the digits, then the character. Assumes nothing.
+use Prim.Native.Nat.{_≤_}
 use native.Mathlib.Omega.{arith}
+use lib.ListN.{length}
+use Rattle.sheet_run.specs.Decimal.{decimal}
 use Rattle.sheet_run.proofs.AppendLaws.{appends-length, then}
 use Rattle.sheet_run.proofs.DecimalLaws.{decimal-word}
 use borrow.Author.Needs.{needs}
 use Rattle.sheet_run.proofs.print.put_number.Statement.{statement}
 use Rattle.sheet_run.proofs.print.put_number.Tie as tie
 
-put-decimal-requires : tie.Need-put-decimal-requires
-put-decimal-requires c κs =
-    let s = c .before .before in
-    omega (arith, s .pre, decimal-word (s .args .x) (s .fits .x .fits))
+abbrev digits : tie.After-put-arg → tie.After-put-decimal
+digits c = c .before .before .before
 
-put-requires : tie.Need-put-requires
-put-requires c κs =
-    let s = c .before .before .before .before .before .before in
-    let A = c .before .before .before .put-decimal .ensures in
-    omega (arith, s .pre, A .ends, appends-length A, decimal-word (s .args .x) (s .fits .x .fits))
+-- no number has more than 20 digits
+few : (c : tie.After-put-decimal-arg) → length (decimal (c .before .before .args .x)) ≤ 20
+few c = let s = c .before .before in decimal-word (s .args .x) (s .fits .x .fits)
 
 returns : tie.Need-returns
 returns c =
-    let s = c .before .before .before .before .before .before .before .before .before in
-    let A = c .before .before .before .before .before .before .put-decimal .ensures in
-    let B = c .before .before .put .ensures in
-    (then A B, omega (arith, A .ends, B .ends, decimal-word (s .args .x) (s .fits .x .fits)))
+    let p = c .before .before in
+    let d = digits (p .before) in
+    (then (d .put-decimal .ensures) (p .put .ensures), omega (arith, few (d .before)))
 
 pub put-number-spec : {M : Type 1} → statement M
-put-number-spec = tie.close (tie.spec put-decimal-requires put-requires (λ c. search needs) returns)
+put-number-spec = tie.close (tie.spec (λ c κs. omega (arith, few c)) (λ c κs. omega (arith, appends-length, few (digits c .before))) (λ c. search needs) returns)

@@ -6,10 +6,9 @@ use borrow.Author.Needs.{needs}
 use Rattle.sheet_run.proofs.run.put_cause.Statement.{statement}
 use Rattle.sheet_run.proofs.run.put_cause.Tie as tie
 
-returns : tie.Need-returns
-returns c =
-    let p = c .before .before in
-    appends-as (p .put-refusal .ensures) _ (ap₂ refusedLine (p .before .before .number .ensures) (p .before .value .ensures))
-
 pub put-cause-spec : {M : Type 1} → statement M
-put-cause-spec = tie.close (tie.spec (λ c κs. search needs) (λ c κs. search needs) (λ c κs. search needs) (λ c. search needs) returns)
+put-cause-spec =
+    tie.close
+    (tie.spec (λ c κs. search needs) (λ c κs. search needs) (λ c κs. search needs) (λ c. search needs)
+    (λ c. let p = c .before .before in
+    appends-as (p .put-refusal .ensures) _ (ap₂ refusedLine (p .before .before .number .ensures) (p .before .value .ensures))))

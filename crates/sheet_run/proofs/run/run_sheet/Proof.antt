@@ -12,25 +12,30 @@ use borrow.Author.Needs.{needs}
 use Rattle.sheet_run.proofs.run.run_sheet.Statement.{statement}
 use Rattle.sheet_run.proofs.run.run_sheet.Tie as tie
 
-slice-aggregate-run-batch : tie.Need-slice-aggregate-run-batch
-slice-aggregate-run-batch c = loaded-length (c .before .before .before .before .before .before .load .ensures)
+abbrev words-loaded : tie.After-words3 → tie.After-load2
+words-loaded c = c .before .before .before
 
-slice-aggregate-run-batch-2 : tie.Need-slice-aggregate-run-batch-2
-slice-aggregate-run-batch-2 c = loaded-length (c .before .before .before .load2 .ensures)
+abbrev rows-loaded : tie.After-load2 → tie.After-load
+rows-loaded c = c .before .before .before .before
+
+abbrev start : tie.After-load → tie.Start
+start c = c .before .before .before .before .before
 
 returns : tie.Need-returns
 returns c =
-    let a = c .before .before .before .before .before .before .before .before .before .before .before .before .before .before .before .before .args in
+    let b = c .before .before in
+    let w = words-loaded (b .before .before) in
+    let r = rows-loaded w in
+    let a = start r .args in
     let s = a .s in
-    let rows = c .before .before .before .before .before .before .before .before .before .before .before .load .ensures in
-    let words = c .before .before .before .before .before .before .before .load2 .ensures in
-    appends-as (c .before .before .run-batch .ensures) _
+    appends-as (b .run-batch .ensures) _
     (ap₂ (λ (x y : List ℕ). batchOutput (s .n) (s .k) x (s .reading) y)
-    (loaded-cut rows 33 (length-replicate 33 zero)) (loaded-cut words 513 (length-replicate 513 zero))
+    (loaded-cut (r .load .ensures) 33 (length-replicate 33 zero)) (loaded-cut (w .load2 .ensures) 513 (length-replicate 513 zero))
     ∙ cut-output (s .n) (s .k) (s .reading) (wordsIn (a .bytes .now) (s .rows)) (wordsIn (a .bytes .now) (s .words)))
 
 pub run-sheet-spec : {M : Type 1} → statement M
 run-sheet-spec =
     tie.close
     (tie.spec (λ c. search needs) (λ c κs. search needs) (λ c. search needs) (λ c κs. search needs) (λ c. search needs)
-    slice-aggregate-run-batch (λ c. search needs) slice-aggregate-run-batch-2 (λ c κs. search needs) (λ c. search needs) returns)
+    (λ c. loaded-length (rows-loaded (c .before .before) .load .ensures)) (λ c. search needs)
+    (λ c. loaded-length (words-loaded c .load2 .ensures)) (λ c κs. search needs) (λ c. search needs) returns)

@@ -1,17 +1,12 @@
 -- `vectors::hsiao_changes::far_pairs` is safe and ends. Assumes nothing.
-use Prim.Native.Nat.{_≤_, _-_}
+use Prim.Native.Nat.{_-_}
 use borrow.Author.Needs.{needs}
 use Rattle.vectors.proofs.hsiao_changes.far_pairs.Statement.{statement}
 use Rattle.vectors.proofs.hsiao_changes.far_pairs.Tie as tie
 
-abbrev Inv-loop : tie.InvT-loop
-Inv-loop w first n₀ p₀ n p = first ≤ p
-
-abbrev μ-loop : tie.MeasureT-loop
-μ-loop w first n₀ p₀ n p = 72 - p
-
 pub far-pairs-spec : {M : Type 1} → statement M
 far-pairs-spec =
     tie.close
-    (tie.spec Inv-loop μ-loop (λ c. search needs) (λ c κs. search needs) (λ c. search needs) (λ c κs. search needs)
-    (λ c κs. search needs) (λ c. search needs) (λ c. search needs) (λ c. search needs) (λ c. search needs))
+    (tie.spec (λ w first n₀ p₀ n p. Unit {0}) (λ w first n₀ p₀ n p. 72 - p) (λ c. search needs) (λ c κs. search needs)
+    (λ c. search needs) (λ c κs. search needs) (λ c κs. search needs) (λ c. search needs) (λ c. search needs) (λ c. search needs)
+    (λ c. search needs))
