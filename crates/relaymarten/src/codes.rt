@@ -103,7 +103,16 @@ pub extern "C" fn relay_decode(
     work: &mut [u32],
     value: &mut usize,
 ) -> u32
-    ensures { λ r. ⌜ Told (λ a. Decoded n k (now (rows .entry)) (readingOf within radius) (now (words .entry)) (now (out .entry)) (now (counts .entry)) (now (work .entry)) a (now (out .exit)) (now (counts .exit)) (now (work .exit))) (decodeAnswer n k (now (rows .entry)) (readingOf within radius) (now (words .entry)) (length (now (out .entry))) (length (now (counts .entry))) (length (now (work .entry)))) r (now (value .exit)) ⌝ }
+    ensures { λ r. ⌜ Told
+        (λ a. Decoded
+        (record { n = n; k = k; rows = now (rows .entry); reading = readingOf within radius; words = now (words .entry) })
+        (record { codewords = now (out .entry); counts = now (counts .entry); work = now (work .entry) })
+        a
+        (record { codewords = now (out .exit); counts = now (counts .exit); work = now (work .exit) }))
+        (decodeAnswer n k (now (rows .entry)) (readingOf within radius) (now (words .entry))
+        (length (now (out .entry))) (length (now (counts .entry))) (length (now (work .entry))))
+        r
+        (now (value .exit)) ⌝ }
 {
     let reading = reading_of(within, radius);
     let a = decode(n, k, rows, reading, words, out, counts, work);

@@ -23,7 +23,7 @@ use Rattle.words.proofs.AcceptedLaws.{accepted-in}
 use Rattle.words.proofs.CodeLaws.{distance-is, leader-weight}
 use Rattle.outcomes.specs.Outcome.{takes, outcomeOf, wordIn, countIn, decodedAs, wordOf, countOf}
 use Rattle.decoder.specs.Causes.{decodeAnswer}
-use Rattle.decoder.specs.Decoded.{Decoded}
+use Rattle.decoder.specs.Decoded.{Batch, Lent, Decoded}
 use Rattle.outcomes.specs.declared.outcome.Reading.{Reading}
 use Rattle.outcomes.specs.declared.outcome.Outcome.{Outcome}
 use Rattle.outcomes.specs.declared.outcome.Outcome.the-variants.{Clean, Mended, Far}
@@ -64,58 +64,58 @@ slot-lines n k rows A reading (w ∷ words) =
 
 -- ---- what Decode leaves, with lists as long as a batch may have
 
-module _ {n k : ℕ} {rows : List ℕ} {reading : Reading} {words : List ℕ} {r : Answer} {out counts work : List ℕ}
-    (D : Decoded n k rows reading words (zeros maxWords) (zeros maxWords) (zeros (2 ^ maxChecks)) r out counts work) where
-  answer-is : r ≡ decodeAnswer n k rows reading words maxWords maxWords (2 ^ maxChecks)
+module _ {B : Batch} {r : Answer} {after : Lent}
+    (D : Decoded B (record { codewords = zeros maxWords; counts = zeros maxWords; work = zeros (2 ^ maxChecks) }) r after) where
+  answer-is : r ≡ decodeAnswer (B .n) (B .k) (B .rows) (B .reading) (B .words) maxWords maxWords (2 ^ maxChecks)
   answer-is = rw length-replicate at (D .answer)
 
-  pub refused-output : (c : Refusal) → r ≡ Refused c → refusedLine (numberOf c) (valueOf c) ≡ batchOutput n k rows reading words
+  pub refused-output : (c : Refusal) → r ≡ Refused c → refusedLine (numberOf c) (valueOf c) ≡ batchOutput (B .n) (B .k) (B .rows) (B .reading) (B .words)
   unfolding batchOutput
-  refused-output c e = ap (λ (a : Answer). linesOf a n k rows reading words) (sym e ∙ answer-is)
+  refused-output c e = ap (λ (a : Answer). linesOf a (B .n) (B .k) (B .rows) (B .reading) (B .words)) (sym e ∙ answer-is)
 
   module _ (d : r ≡ Done) where
-    passed : Passed n k rows reading words maxWords maxWords (2 ^ maxChecks)
-    passed = batch-in n k rows reading words maxWords maxWords (2 ^ maxChecks) (sym answer-is ∙ d)
+    passed : Passed (B .n) (B .k) (B .rows) (B .reading) (B .words) maxWords maxWords (2 ^ maxChecks)
+    passed = batch-in (B .n) (B .k) (B .rows) (B .reading) (B .words) maxWords maxWords (2 ^ maxChecks) (sym answer-is ∙ d)
 
-    accepted : Accepted n k rows
-    accepted = accepted-in n k rows (passed .matrix)
+    accepted : Accepted (B .n) (B .k) (B .rows)
+    accepted = accepted-in (B .n) (B .k) (B .rows) (passed .matrix)
 
-    pub few-words : length words ≤ maxWords
+    pub few-words : length (B .words) ≤ maxWords
     few-words = passed .listed .few
 
-    pub few-places : n ≤ 32
+    pub few-places : B .n ≤ 32
     few-places = omega (arith, accepted .range .places)
 
     -- the minimum distance beside the answer
-    pub apart : (x : ℕ) → x ≡ ifDone r (dmin rows) 0 → 1 ≤ x
-    apart x e = rw (e, d) (distance-is n k rows accepted .bounds .0)
+    pub apart : (x : ℕ) → x ≡ ifDone r (dmin (B .rows)) 0 → 1 ≤ x
+    apart x e = rw (e, d) (distance-is (B .n) (B .k) (B .rows) accepted .bounds .0)
 
-    codewords-are : take (length words) out ≡ map (wordOf n rows reading) words
+    codewords-are : take (length (B .words)) (after .codewords) ≡ map (wordOf (B .n) (B .rows) (B .reading)) (B .words)
     codewords-are =
-        ap (take (length words)) (rw d at (D .codewords))
-        ∙ take-at (map (wordOf n rows reading) words) _ (length words) (length-map words (wordOf n rows reading))
+        ap (take (length (B .words))) (rw d at (D .codewords))
+        ∙ take-at (map (wordOf (B .n) (B .rows) (B .reading)) (B .words)) _ (length (B .words)) (length-map (B .words) (wordOf (B .n) (B .rows) (B .reading)))
 
-    counts-are : take (length words) counts ≡ map (countOf n rows reading) words
+    counts-are : take (length (B .words)) (after .counts) ≡ map (countOf (B .n) (B .rows) (B .reading)) (B .words)
     counts-are =
-        ap (take (length words)) (rw d at (D .distances))
-        ∙ take-at (map (countOf n rows reading) words) _ (length words) (length-map words (countOf n rows reading))
+        ap (take (length (B .words))) (rw d at (D .distances))
+        ∙ take-at (map (countOf (B .n) (B .rows) (B .reading)) (B .words)) _ (length (B .words)) (length-map (B .words) (countOf (B .n) (B .rows) (B .reading)))
 
-    pub codewords-length : length (take (length words) out) ≡ length words
-    codewords-length = ap length codewords-are ∙ length-map words (wordOf n rows reading)
+    pub codewords-length : length (take (length (B .words)) (after .codewords)) ≡ length (B .words)
+    codewords-length = ap length codewords-are ∙ length-map (B .words) (wordOf (B .n) (B .rows) (B .reading))
 
-    pub counts-length : length (take (length words) counts) ≡ length words
-    counts-length = ap length counts-are ∙ length-map words (countOf n rows reading)
+    pub counts-length : length (take (length (B .words)) (after .counts)) ≡ length (B .words)
+    counts-length = ap length counts-are ∙ length-map (B .words) (countOf (B .n) (B .rows) (B .reading))
 
-    pub codewords-room : length words ≤ length out
-    codewords-room = omega (arith, codewords-length, length-take (length words) out)
+    pub codewords-room : length (B .words) ≤ length (after .codewords)
+    codewords-room = omega (arith, codewords-length, length-take (length (B .words)) (after .codewords))
 
-    pub counts-room : length words ≤ length counts
-    counts-room = omega (arith, counts-length, length-take (length words) counts)
+    pub counts-room : length (B .words) ≤ length (after .counts)
+    counts-room = omega (arith, counts-length, length-take (length (B .words)) (after .counts))
 
-    pub done-output : (x : ℕ) → x ≡ ifDone r (dmin rows) 0
-        → codeLine n k x ++ slotLines n (take (length words) out) (take (length words) counts) ≡ batchOutput n k rows reading words
+    pub done-output : (x : ℕ) → x ≡ ifDone r (dmin (B .rows)) 0
+        → codeLine (B .n) (B .k) x ++ slotLines (B .n) (take (length (B .words)) (after .codewords)) (take (length (B .words)) (after .counts)) ≡ batchOutput (B .n) (B .k) (B .rows) (B .reading) (B .words)
     unfolding batchOutput
     done-output x e =
-        ap₂ (λ (y : ℕ) (l : List ℕ). codeLine n k y ++ l) (rw d at e)
-        (ap₂ (slotLines n) codewords-are counts-are ∙ slot-lines n k rows accepted reading words)
-        ∙ ap (λ (a : Answer). linesOf a n k rows reading words) (sym d ∙ answer-is)
+        ap₂ (λ (y : ℕ) (l : List ℕ). codeLine (B .n) (B .k) y ++ l) (rw d at e)
+        (ap₂ (slotLines (B .n)) codewords-are counts-are ∙ slot-lines (B .n) (B .k) (B .rows) accepted (B .reading) (B .words))
+        ∙ ap (λ (a : Answer). linesOf a (B .n) (B .k) (B .rows) (B .reading) (B .words)) (sym d ∙ answer-is)

@@ -10,7 +10,6 @@ use Rattle.words.specs.Refusal.{andThen}
 use Rattle.words.specs.declared.answer.Answer.{Answer}
 use Rattle.words.proofs.AnswerLaws.{refused-done, stays, goes}
 use Rattle.parity.proofs.CodeOfLaws.{checks-of}
-use Rattle.decoder.specs.Causes.{radiusAnswer}
 use Rattle.decoder.specs.Inner.Known.{asked, KnownOf}
 use Rattle.decoder.proofs.CauseLaws.{radius-same, asked-within, asked-measured, distance-of}
 use Rattle.decoder.proofs.causes.known_past.Statement.{statement}
