@@ -23,4 +23,6 @@ returns c =
     (then (d .put-decimal .ensures) (p .put .ensures), omega (arith, few (d .before)))
 
 pub put-number-spec : {M : Type 1} → statement M
-put-number-spec = tie.close (tie.spec (λ c κs. omega (arith, few c)) (λ c κs. omega (arith, appends-length, few (digits c .before))) (λ c. search needs) returns)
+put-number-spec =
+    tie.close
+    (tie.spec (λ c κs. omega (arith, few c)) (λ c κs. omega (arith, appends-length, few (digits c .before))) (λ c. search needs) returns)
