@@ -27,8 +27,8 @@ use Rattle.decoder.specs.Inner.Known.{asked, KnownOf}
 use Rattle.decoder.specs.declared.matrix.Known.{Known}
 use Rattle.decoder.specs.Causes.{radiusAnswer, listsAnswer, decodeAnswer}
 use Rattle.leaders.specs.Leaders.{workAnswer}
-use Rattle.outcomes.specs.declared.outcome.Reading.{Reading}
-use Rattle.outcomes.specs.declared.outcome.Reading.the-variants.{Nearest, Within}
+use Rattle.outcomes.specs.declared.ending.Reading.{Reading}
+use Rattle.outcomes.specs.declared.ending.Reading.the-variants.{Nearest, Within}
 
 -- ---- cause 5 by half of dmin - 1
 

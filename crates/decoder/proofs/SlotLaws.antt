@@ -12,8 +12,8 @@ use Rattle.words.specs.Accepted.{Accepted}
 use Rattle.leaders.specs.Leaders.{leadersList}
 use Rattle.words.proofs.CodeLaws.{checks-pad, syndrome-below}
 use Rattle.outcomes.specs.Outcome.{outcomeOf, wordIn, countIn, decodedAs, wordOf, countOf}
-use Rattle.outcomes.specs.declared.outcome.Reading.{Reading}
-use Rattle.outcomes.specs.declared.outcome.Outcome.{Outcome}
+use Rattle.outcomes.specs.declared.ending.Reading.{Reading}
+use Rattle.outcomes.specs.declared.ending.Outcome.{Outcome}
 use Rattle.decoder.specs.Inner.SlotsBy.{wordBy, countBy}
 
 -- a slot that has been written

@@ -10,8 +10,8 @@ use Rattle.words.specs.declared.answer.Refusal.the-variants.{RadiusTooLarge}
 use Rattle.words.specs.declared.answer.Answer.{Answer}
 use Rattle.words.specs.declared.answer.Answer.the-variants.{Done}
 use Rattle.leaders.specs.Leaders.{workAnswer}
-use Rattle.outcomes.specs.declared.outcome.Reading.{Reading}
-use Rattle.outcomes.specs.declared.outcome.Reading.the-variants.{Nearest, Within}
+use Rattle.outcomes.specs.declared.ending.Reading.{Reading}
+use Rattle.outcomes.specs.declared.ending.Reading.the-variants.{Nearest, Within}
 
 -- cause 5: a radius r with 2 r + 1 above dmin
 abbrev pub radiusAnswer : Reading → ℕ → Answer

@@ -16,9 +16,9 @@ use Rattle.words.specs.declared.answer.Answer.the-variants.{Done, Refused}
 use Rattle.leaders.specs.Leaders.{leadersList}
 use Rattle.outcomes.specs.Outcome.{decodedAs, wordOf, countOf}
 use Rattle.decoder.specs.Causes.{decodeAnswer}
-use Rattle.outcomes.specs.declared.outcome.Reading.{Reading}
-use Rattle.outcomes.specs.declared.outcome.Reading.the-variants.{Nearest, Within}
-use Rattle.outcomes.specs.declared.outcome.Outcome.the-variants.{Clean}
+use Rattle.outcomes.specs.declared.ending.Reading.{Reading}
+use Rattle.outcomes.specs.declared.ending.Reading.the-variants.{Nearest, Within}
+use Rattle.outcomes.specs.declared.ending.Outcome.the-variants.{Clean}
 
 -- what Decode is given: the matrix, the reading and the received words
 pub record Batch : Type 0 where

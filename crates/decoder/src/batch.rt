@@ -1,11 +1,11 @@
 // Decode: a batch of received words, read as the nearest codewords or within a radius.
 use crate::causes::known_past;
-use leaders::leaders::fill_leaders;
-use outcomes::outcome::Reading;
-use outcomes::outcome::count_in;
-use outcomes::outcome::outcome_of;
-use outcomes::outcome::word_in;
-use parity::check::syndrome;
+use leaders::fill_leaders;
+use outcomes::Reading;
+use outcomes::count_in;
+use outcomes::outcome_of;
+use outcomes::word_in;
+use parity::syndrome;
 use words::answer::Answer;
 use words::answer::Refusal;
 use words::limits::MAX_CHECKS;

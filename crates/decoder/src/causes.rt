@@ -2,7 +2,7 @@
 use crate::matrix::Known;
 use crate::matrix::asks;
 use crate::matrix::known_of;
-use outcomes::outcome::Reading;
+use outcomes::Reading;
 use words::answer::Answer;
 use words::answer::Refusal;
 use words::lists::list_cause;
@@ -13,7 +13,7 @@ ghost use Rattle.words.specs.Refusal.{andThen};
 ghost use Rattle.words.specs.Lists.{listAnswer};
 ghost use Rattle.decoder.specs.Causes.{radiusAnswer};
 ghost use Rattle.decoder.specs.Inner.Known.{PastOf};
-ghost use Rattle.outcomes.specs.declared.outcome.Reading.the-variants.{Within};
+ghost use Rattle.outcomes.specs.declared.ending.Reading.the-variants.{Within};
 
 // Cause 5, by the minimum distance. Half of dmin - 1 is compared, so that no radius overflows.
 fn radius_cause(reading: Reading, d: u32) -> Answer

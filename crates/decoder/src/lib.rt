@@ -2,3 +2,6 @@
 pub mod batch; // Decode over a batch of words
 pub mod causes; // causes 1 to 8
 pub mod matrix; // what is taken from the matrix
+
+pub use crate::batch::decode;
+pub use crate::batch::decode_measured;

@@ -1,7 +1,7 @@
 // What Decode takes from the matrix: one elimination, and a walk over the codewords only where the minimum distance is asked for.
-use outcomes::outcome::Reading;
-use parity::check::code_of;
-use weights::describe::describe;
+use outcomes::Reading;
+use parity::code_of;
+use weights::describe;
 use words::answer::Answer;
 use words::limits::MAX_CHECKS;
 ghost use mathlib.Core.Path.{_≡_};

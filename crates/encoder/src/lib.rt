@@ -1,3 +1,6 @@
 // The operations Encode and Message on lists.
-pub mod encode; // Encode
-pub mod message; // Message
+pub mod encoding; // Encode
+pub mod read_back; // Message
+
+pub use crate::encoding::encode;
+pub use crate::read_back::message;

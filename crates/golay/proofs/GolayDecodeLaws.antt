@@ -23,8 +23,8 @@ use Rattle.words.specs.declared.answer.Answer.the-variants.{Done, Refused}
 use Rattle.words.proofs.AnswerLaws.{refused-done}
 use Rattle.words.proofs.CodeLaws.{one-is, back-is}
 use Rattle.outcomes.specs.Outcome.{outcomeOf, wordIn, countIn}
-use Rattle.outcomes.specs.declared.outcome.Reading.the-variants.{Within}
-use Rattle.outcomes.specs.declared.outcome.Outcome.the-variants.{Clean}
+use Rattle.outcomes.specs.declared.ending.Reading.the-variants.{Within}
+use Rattle.outcomes.specs.declared.ending.Outcome.the-variants.{Clean}
 use Rattle.outcomes.proofs.DemandLaws.{outcome-found, outcome-none, radius-rule, clean-rule}
 use Rattle.golay_code.specs.Golay.{golayChecks, golayRows}
 use Rattle.golay_code.proofs.GolayLaws.{golay-size, golay-inside, golay-accepted, golay-dmin, golay-distance}

@@ -12,11 +12,11 @@ use Rattle.words.specs.declared.answer.Refusal.the-variants.{WordOutside}
 use Rattle.words.specs.declared.answer.Answer.{Answer}
 use Rattle.words.specs.declared.answer.Answer.the-variants.{Done}
 use Rattle.outcomes.specs.Outcome.{wordIn, countIn, decodedAs}
-use Rattle.outcomes.specs.declared.outcome.Reading.the-variants.{Within}
-use Rattle.outcomes.specs.declared.outcome.Outcome.{Outcome}
-use Rattle.outcomes.specs.declared.outcome.Outcome.the-variants.{Clean}
+use Rattle.outcomes.specs.declared.ending.Reading.the-variants.{Within}
+use Rattle.outcomes.specs.declared.ending.Outcome.{Outcome}
+use Rattle.outcomes.specs.declared.ending.Outcome.the-variants.{Clean}
 use Rattle.golay_code.specs.Golay.{golayRows}
-use Rattle.golay.specs.declared.decode.Correction.{Correction}
+use Rattle.golay.specs.declared.decoding.Correction.{Correction}
 
 -- how a received word ends: as Decode ends it with the Golay matrix, within radius 3
 unfoldable pub golayOutcome : ℕ → Outcome

@@ -8,7 +8,7 @@ use Rattle.words.specs.declared.answer.Refusal.the-variants.{WordOutside}
 use Rattle.words.specs.declared.answer.Answer.{Answer}
 use Rattle.words.specs.declared.answer.Answer.the-variants.{Done}
 use Rattle.golay_code.specs.Golay.{golayRows}
-use Rattle.golay.specs.declared.encode.Encoding.{Encoding}
+use Rattle.golay.specs.declared.encoding.Encoding.{Encoding}
 
 -- cause 7: a message with a one outside its 12 places
 abbrev pub encodeAnswer : ℕ → Answer

@@ -8,7 +8,7 @@ use Rattle.words.specs.declared.answer.Refusal.the-variants.{WordOutside, NoCod
 use Rattle.words.specs.declared.answer.Answer.{Answer}
 use Rattle.words.specs.declared.answer.Answer.the-variants.{Done}
 use Rattle.golay_code.specs.Golay.{golayRows}
-use Rattle.golay.specs.declared.message.ReadBack.{ReadBack}
+use Rattle.golay.specs.declared.read_back.ReadBack.{ReadBack}
 
 -- cause 7: a word with a one outside its 24 places; then cause 10: one that is no codeword
 abbrev pub messageAnswer : ℕ → Answer

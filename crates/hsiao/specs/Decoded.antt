@@ -6,7 +6,7 @@ use Rattle.coding.specs.Columns.{SplitWord, splitDistance, SplitCodeword, Split
 use Rattle.hsiao.specs.Table.{columns, split}
 use Rattle.hsiao.specs.Outcome.{outcomeOf, wordIn, countIn}
 use Rattle.hsiao.specs.declared.word.Word.{Word}
-use Rattle.hsiao.specs.declared.decode.Decoding.{Decoding}
+use Rattle.hsiao.specs.declared.decoding.Decoding.{Decoding}
 use Rattle.hsiao.specs.declared.outcomes.Outcome.the-variants.{Clean, Far}
 
 -- the answer is that of the outcome, with its count, 255 meaning far; the minimum distance is 4, and the radius rules hold at 1 of

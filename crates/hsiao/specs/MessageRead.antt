@@ -8,7 +8,7 @@ use Rattle.words.specs.declared.answer.Answer.{Answer}
 use Rattle.words.specs.declared.answer.Answer.the-variants.{Done}
 use Rattle.hsiao.specs.Table.{syndromeOf, IsCodeword}
 use Rattle.hsiao.specs.declared.word.Word.{Word}
-use Rattle.hsiao.specs.declared.message.ReadBack.{ReadBack}
+use Rattle.hsiao.specs.declared.read_back.ReadBack.{ReadBack}
 
 -- cause 10: a word with a syndrome other than 0
 abbrev pub messageAnswer : Word → Answer

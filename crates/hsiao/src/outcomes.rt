@@ -1,6 +1,6 @@
 // Part 5: how one word ends.
 use crate::columns::numbered;
-use crate::syndrome::syndrome;
+use crate::syndromes::syndrome;
 use crate::word::Word;
 ghost use mathlib.Core.Path.{_≡_};
 ghost use Rattle.coding.specs.Columns.{SplitPlaces};

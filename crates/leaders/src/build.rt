@@ -1,6 +1,6 @@
 // The list of the leaders is filled: the words are tried by rising weight, of equal weight by rising number, with the syndrome kept along by one
 // column a step; a word takes the entry of its syndrome where that is blank, and the build ends when none is.
-use parity::check::syndrome;
+use parity::syndrome;
 use words::limits::MAX_CHECKS;
 use words::limits::WIDTH;
 ghost use mathlib.Core.Path.{_≡_};

@@ -1,6 +1,6 @@
 // Part 4: the leaders of all syndromes, in a lent list.
 use crate::build::build;
-use parity::check::parity_checks;
+use parity::parity_checks;
 use words::answer::Answer;
 use words::answer::Refusal;
 use words::limits::MAX_CHECKS;

@@ -20,7 +20,7 @@ use Rattle.words.proofs.AcceptedLaws.{ends-dependent, ends-done, accepted-in}
 use Rattle.words.proofs.CodeLaws.{rows-are}
 use Rattle.linear.specs.Reduction.{ReductionOf}
 use Rattle.linear.specs.Inner.Eliminated.{Eliminated}
-use Rattle.linear.specs.declared.reduce.Elimination.{Elimination}
+use Rattle.linear.specs.declared.reduction.Elimination.{Elimination}
 use Rattle.linear.proofs.PivotTableLaws.{reduction-done, compact-is}
 
 module _ (n k : ℕ) (rows : List ℕ) (shaped : shapeAnswer n k rows ≡ Done) {r : Elimination} (E : Eliminated rows r) where

@@ -25,8 +25,8 @@ use Rattle.words.proofs.AnswerLaws.{refused-done}
 use Rattle.words.specs.Accepted.{matrixAnswer, Accepted}
 use Rattle.linear.specs.ReducedRows.{ReducedRowsOf}
 use Rattle.linear.specs.Reduction.{MessagesByPivot, ReductionOf}
-use Rattle.linear.specs.declared.reduce.Reduction.{Reduction}
-use Rattle.linear.specs.declared.reduce.ReducedRows.{ReducedRows}
+use Rattle.linear.specs.declared.reduction.Reduction.{Reduction}
+use Rattle.linear.specs.declared.reduction.ReducedRows.{ReducedRows}
 use Rattle.words.proofs.AcceptedLaws.{accepted-in, in-accepted}
 use Rattle.words.proofs.CodeLaws.{places-are, rows-are}
 

@@ -10,7 +10,7 @@ use Rattle.words.specs.Limits.{maxRows}
 use Rattle.words.specs.Refusal.{ifDone}
 use Rattle.words.specs.Accepted.{matrixAnswer}
 use Rattle.words.specs.declared.answer.Answer.the-variants.{Done}
-use Rattle.linear.specs.declared.reduce.ReducedRows.{ReducedRows}
+use Rattle.linear.specs.declared.reduction.ReducedRows.{ReducedRows}
 
 -- causes 1 to 4; the k reduced rows and 0 after them, or 0 at every entry; and for an accepted matrix these rows are its
 -- reduced row echelon form, the only one

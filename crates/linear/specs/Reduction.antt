@@ -11,7 +11,7 @@ use Rattle.words.specs.Refusal.{ifDone}
 use Rattle.words.specs.declared.answer.Answer.{Answer}
 use Rattle.words.specs.declared.answer.Answer.the-variants.{Done}
 use Rattle.linear.specs.ReducedRows.{ReducedRowsOf}
-use Rattle.linear.specs.declared.reduce.Reduction.{Reduction}
+use Rattle.linear.specs.declared.reduction.Reduction.{Reduction}
 
 -- entry p of the messages is the message whose codeword is the reduced row with the pivot p, 0 where p is no pivot and on a refusal;
 -- `reduce width rows` is the table by place, reduced row i at pivot i and 0 elsewhere

@@ -23,10 +23,10 @@ use Rattle.coding.proofs.RadiusLaws.{one-within, radius-rules}
 use Rattle.words.specs.Accepted.{Accepted}
 use Rattle.words.proofs.CodeLaws.{syndrome-below, light}
 use Rattle.outcomes.specs.Outcome.{takes, outcomeOf, wordIn, countIn, decodedAs, wordOf, countOf}
-use Rattle.outcomes.specs.declared.outcome.Reading.{Reading}
-use Rattle.outcomes.specs.declared.outcome.Reading.the-variants.{Nearest, Within}
-use Rattle.outcomes.specs.declared.outcome.Outcome.{Outcome}
-use Rattle.outcomes.specs.declared.outcome.Outcome.the-variants.{Clean, Mended, Far}
+use Rattle.outcomes.specs.declared.ending.Reading.{Reading}
+use Rattle.outcomes.specs.declared.ending.Reading.the-variants.{Nearest, Within}
+use Rattle.outcomes.specs.declared.ending.Outcome.{Outcome}
+use Rattle.outcomes.specs.declared.ending.Outcome.the-variants.{Clean, Mended, Far}
 
 -- ---- the outcome of a word w with the leader e
 

@@ -1,5 +1,5 @@
 // Part 2: parity-check rows and syndromes.
-use linear::reduce::reduce;
+use linear::reduce;
 use words::answer::Answer;
 use words::limits::MAX_CHECKS;
 use words::limits::MAX_ROWS;

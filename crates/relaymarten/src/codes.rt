@@ -1,10 +1,10 @@
 // Operations on any generator matrix.
 use crate::told::tell;
-use decoder::batch::decode;
-use encoder::encode::encode;
-use encoder::message::message;
-use outcomes::outcome::Reading;
-use weights::describe::describe;
+use decoder::decode;
+use encoder::encode;
+use encoder::message;
+use outcomes::Reading;
+use weights::describe;
 use words::limits::MAX_CHECKS;
 use words::limits::MAX_ROWS;
 use words::limits::WEIGHT_SLOTS;

@@ -1,7 +1,7 @@
 // The extended Golay code (24,12), one word at a time.
 use crate::told::tell;
-use golay::decode::decode;
-use golay::encode::encode;
+use golay::decode;
+use golay::encode;
 ghost use Rattle.golay.specs.Encoded.{encodeAnswer, Encoded};
 ghost use Rattle.golay.specs.Decoded.{decodeAnswer, Decoded};
 ghost use Rattle.golay.specs.MessageRead.{messageAnswer, MessageRead};
@@ -40,7 +40,7 @@ pub extern "C" fn relay_golay_decode(
 pub extern "C" fn relay_golay_message(codeword: u32, message: &mut u32, value: &mut usize) -> u32
     ensures { λ r. ⌜ Told (λ a. MessageRead codeword (record { answer = a; message = now (message .exit) })) (messageAnswer codeword) r (now (value .exit)) ⌝ }
 {
-    let b = golay::message::message(codeword);
+    let b = golay::message(codeword);
     *message = b.message;
     let a = b.answer;
     tell(a, value)

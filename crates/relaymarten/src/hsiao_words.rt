@@ -1,9 +1,9 @@
 // The (72,64) code, one word at a time, given as its check byte and its data.
 use crate::told::tell;
-use hsiao::decode::decode;
-use hsiao::encode::encode;
-use hsiao::message::message;
-use hsiao::word::Word;
+use hsiao::Word;
+use hsiao::decode;
+use hsiao::encode;
+use hsiao::message;
 ghost use Rattle.hsiao.specs.Encoded.{Encoded};
 ghost use Rattle.hsiao.specs.Decoded.{Decoded};
 ghost use Rattle.hsiao.specs.MessageRead.{messageAnswer, MessageRead};

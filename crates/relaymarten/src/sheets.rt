@@ -7,5 +7,5 @@ ghost use Rattle.sheet_run.specs.Run.{Ran};
 pub extern "C" fn relay_run(sheet: &[u8], out: &mut [u8]) -> usize
     ensures { λ r. ⌜ Ran (now (sheet .entry)) (now (out .entry)) r (now (out .exit)) ⌝ }
 {
-    sheet_run::run::run(sheet, out)
+    sheet_run::run(sheet, out)
 }

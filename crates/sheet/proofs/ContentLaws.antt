@@ -6,7 +6,7 @@ use Prim.Native.Nat.{ℕ}
 use native.Mathlib.Omega.{arith}
 use types.Run.{OneOf}
 use denote.Enum.Declared.{tagOf}
-use Rattle.outcomes.specs.declared.outcome.Reading.the-variants.{Nearest}
+use Rattle.outcomes.specs.declared.ending.Reading.the-variants.{Nearest}
 use Rattle.sheet.specs.Field.{gotten}
 use Rattle.sheet.specs.Sheet.{readingOf, withByte, withWords}
 use Rattle.sheet.specs.declared.answer.Fault.the-variants.{Tag}

@@ -1,5 +1,5 @@
 // How the reading of a sheet ends: the sheet, or cause 12 or 13 of document 01 with its position.
-use outcomes::outcome::Reading;
+use outcomes::Reading;
 ghost use mathlib.Core.Path.{_≡_};
 ghost use Rattle.sheet.specs.Fault.{numberOf, valueOf};
 

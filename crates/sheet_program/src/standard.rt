@@ -2,9 +2,9 @@
 use libc::STDERR_FILENO;
 use libc::STDIN_FILENO;
 use libc::STDOUT_FILENO;
-use sheet::read::MAX_SHEET;
-use sheet_run::run::MAX_OUTPUT;
-use sheet_run::run::run;
+use sheet::MAX_SHEET;
+use sheet_run::MAX_OUTPUT;
+use sheet_run::run;
 ghost use Prim.Native.Nat.{_<_};
 ghost use lib.ListN.{length};
 ghost use Rattle.io.specs.Counts.{Counts};

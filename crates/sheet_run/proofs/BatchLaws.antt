@@ -24,9 +24,9 @@ use Rattle.words.proofs.CodeLaws.{distance-is, leader-weight}
 use Rattle.outcomes.specs.Outcome.{takes, outcomeOf, wordIn, countIn, decodedAs, wordOf, countOf}
 use Rattle.decoder.specs.Causes.{decodeAnswer}
 use Rattle.decoder.specs.Decoded.{Batch, Lent, Decoded}
-use Rattle.outcomes.specs.declared.outcome.Reading.{Reading}
-use Rattle.outcomes.specs.declared.outcome.Outcome.{Outcome}
-use Rattle.outcomes.specs.declared.outcome.Outcome.the-variants.{Clean, Mended, Far}
+use Rattle.outcomes.specs.declared.ending.Reading.{Reading}
+use Rattle.outcomes.specs.declared.ending.Outcome.{Outcome}
+use Rattle.outcomes.specs.declared.ending.Outcome.the-variants.{Clean, Mended, Far}
 use Rattle.decoder.proofs.CauseLaws.{Passed, batch-in}
 use Rattle.sheet_run.specs.Output.{ending, wordLine, wordLines, refusedLine, codeLine, linesOf, batchOutput}
 use Rattle.sheet_run.specs.Inner.Slots.{slotEnding, slotLine, slotLines}

@@ -22,7 +22,7 @@ use Rattle.words.specs.declared.answer.Answer.the-variants.{Done, Refused}
 use Rattle.words.proofs.ShapeLaws.{range-in}
 use Rattle.words.proofs.AcceptedLaws.{shape-refused}
 use Rattle.decoder.specs.Causes.{radiusAnswer, listsAnswer, decodeAnswer}
-use Rattle.outcomes.specs.declared.outcome.Reading.{Reading}
+use Rattle.outcomes.specs.declared.ending.Reading.{Reading}
 use Rattle.decoder.proofs.CauseLaws.{at-matrix}
 use Rattle.sheet_run.specs.Output.{linesOf, batchOutput}
 

@@ -10,9 +10,9 @@ use Rattle.words.specs.declared.answer.Answer.{Answer}
 use Rattle.words.specs.declared.answer.Answer.the-variants.{Done, Refused}
 use Rattle.outcomes.specs.Outcome.{wordIn, decodedAs}
 use Rattle.decoder.specs.Causes.{decodeAnswer}
-use Rattle.outcomes.specs.declared.outcome.Reading.{Reading}
-use Rattle.outcomes.specs.declared.outcome.Outcome.{Outcome}
-use Rattle.outcomes.specs.declared.outcome.Outcome.the-variants.{Clean, Mended, Far}
+use Rattle.outcomes.specs.declared.ending.Reading.{Reading}
+use Rattle.outcomes.specs.declared.ending.Outcome.{Outcome}
+use Rattle.outcomes.specs.declared.ending.Outcome.the-variants.{Clean, Mended, Far}
 use Rattle.sheet.specs.Fault as fault
 use Rattle.sheet.specs.Sheet.{sheetOf}
 use Rattle.sheet.specs.Words.{wordsIn}

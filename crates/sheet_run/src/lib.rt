@@ -1,4 +1,7 @@
 // The run: a code sheet is read, decoded and printed; document 01, "The code sheet".
 pub mod load; // the words of four bytes in a sheet
 pub mod print; // the lines of the output
-pub mod run; // the whole run: sheet bytes to output bytes
+pub mod runner; // the whole run: sheet bytes to output bytes
+
+pub use crate::runner::MAX_OUTPUT;
+pub use crate::runner::run;

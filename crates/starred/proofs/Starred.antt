@@ -18,9 +18,9 @@ use Rattle.words.specs.declared.answer.Refusal.the-variants.{Dependent}
 use Rattle.words.specs.declared.answer.Answer.the-variants.{Done, Refused}
 use Rattle.words.specs.Accepted.{matrixAnswer}
 use Rattle.outcomes.specs.Outcome.{wordIn, countIn, decodedAs}
-use Rattle.outcomes.specs.declared.outcome.Reading.the-variants.{Nearest}
-use Rattle.outcomes.specs.declared.outcome.Outcome.{Outcome}
-use Rattle.outcomes.specs.declared.outcome.Outcome.the-variants.{Clean, Mended, Far}
+use Rattle.outcomes.specs.declared.ending.Reading.the-variants.{Nearest}
+use Rattle.outcomes.specs.declared.ending.Outcome.{Outcome}
+use Rattle.outcomes.specs.declared.ending.Outcome.the-variants.{Clean, Mended, Far}
 use Rattle.golay_code.specs.Golay.{golayChecks, golayRows}
 use Rattle.golay_code.proofs.GolayLaws.{golay-accepted}
 use Rattle.golay.specs.Decoded.{golayOutcome}

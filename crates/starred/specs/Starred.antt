@@ -11,8 +11,8 @@ use Rattle.words.specs.Refusal.{numberOf, valueOf}
 use Rattle.words.specs.declared.answer.Refusal.the-variants.{Dependent}
 use Rattle.words.specs.declared.answer.Answer.the-variants.{Done, Refused}
 use Rattle.words.specs.Accepted.{matrixAnswer}
-use Rattle.outcomes.specs.declared.outcome.Reading.the-variants.{Nearest}
-use Rattle.outcomes.specs.declared.outcome.Outcome.the-variants as ended
+use Rattle.outcomes.specs.declared.ending.Reading.the-variants.{Nearest}
+use Rattle.outcomes.specs.declared.ending.Outcome.the-variants as ended
 use Rattle.outcomes.specs.Outcome.{decodedAs}
 use Rattle.golay_code.specs.Golay.{golayRows}
 use Rattle.golay.specs.Decoded.{golayOutcome}

@@ -8,10 +8,10 @@ use crate::records;
 use crate::records::ENTRIES;
 use crate::records::SLOTS;
 use crate::records::number;
-use decoder::batch::decode;
-use encoder::encode::encode;
-use encoder::message::message;
-use outcomes::outcome::Reading;
+use decoder::decode;
+use encoder::encode;
+use encoder::message;
+use outcomes::Reading;
 
 fn coded(operation: u8, n: u32, k: u32, rows: &[u32], words: &[u32]) {
     let mut out = [UNUSED; SLOTS];

@@ -2,9 +2,9 @@
 use crate::golay_patterns;
 use crate::print::answer;
 use crate::print::item;
-use golay::decode::decode;
-use golay::encode::encode;
-use golay::message::message;
+use golay::decode;
+use golay::encode;
+use golay::message;
 
 fn encoded(u: u32) {
     let r = encode(u);

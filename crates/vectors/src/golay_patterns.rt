@@ -2,9 +2,9 @@
 use crate::print::flag;
 use crate::print::item;
 use crate::print::mix;
-use golay::decode::decode;
-use golay::encode::encode;
-use golay::message::message;
+use golay::decode;
+use golay::encode;
+use golay::message;
 use words::word::sum;
 use words::word::weight;
 

@@ -3,11 +3,11 @@ use crate::hsiao_changes;
 use crate::print::answer;
 use crate::print::item;
 use crate::print::long;
-use hsiao::decode::decode;
-use hsiao::encode::encode;
-use hsiao::message::message;
-use hsiao::syndrome::syndrome;
-use hsiao::word::Word;
+use hsiao::Word;
+use hsiao::decode;
+use hsiao::encode;
+use hsiao::message;
+use hsiao::syndrome;
 
 fn joined(high: u32, low: u32) -> u64 {
     high as u64 * 4294967296 + low as u64

@@ -1,9 +1,9 @@
 // Operations 42 and 43: every check byte beside the same data, and a codeword of the (72,64) code changed in one, two or three places.
 use crate::print::flag;
 use crate::print::item;
-use hsiao::decode::decode;
-use hsiao::encode::encode;
-use hsiao::word::Word;
+use hsiao::Word;
+use hsiao::decode;
+use hsiao::encode;
 
 // All 72 places: 0 to 7 are the check byte, 8 to 71 the data.
 const PLACES: u32 = 72;

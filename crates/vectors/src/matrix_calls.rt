@@ -2,12 +2,12 @@
 use crate::print;
 use crate::print::answer;
 use crate::print::item;
-use linear::accept::accept;
-use linear::reduce::reduced_rows;
-use parity::check::parity_checks;
-use parity::check::syndrome;
-use weights::describe::describe;
-use weights::weights::weights_of;
+use linear::accept;
+use linear::reduced_rows;
+use parity::parity_checks;
+use parity::syndrome;
+use weights::describe;
+use weights::weights_of;
 use words::sums::row_sum;
 use words::word::weight;
 

@@ -11,7 +11,7 @@ use Rattle.linear.specs.ReducedRows.{ReducedRowsOf}
 use Rattle.parity.specs.ParityChecks.{ParityChecksOf}
 use Rattle.words.specs.declared.answer.Answer.the-variants.{Done}
 use Rattle.weights.specs.declared.weights.Weights.{Weights}
-use Rattle.weights.specs.declared.describe.Description.{Description}
+use Rattle.weights.specs.declared.description.Description.{Description}
 
 -- causes 1 to 4; for an accepted matrix the minimum distance and the counts of the definitions (0 past n), which is the least weight
 -- of a nonzero codeword and the least distance of two codewords; the counts add to 2 ^ k; and the lightest word, the one part that

@@ -1,6 +1,6 @@
 // Part 3: weight counts, minimum distance and a lightest codeword, from one walk.
 use crate::walk::walk_all;
-use linear::accept::accept;
+use linear::accept;
 use words::answer::Answer;
 use words::limits::WEIGHT_SLOTS;
 ghost use Rattle.weights.specs.Description.{WeightsOf};

@@ -47,7 +47,7 @@ pub fn first_outside(words: &[u32], n: u32) -> usize
 }
 
 // Causes 1 to 3.
-pub fn shape(n: u32, k: u32, rows: &[u32]) -> Answer
+pub fn shape_cause(n: u32, k: u32, rows: &[u32]) -> Answer
     ensures { λ r. ⌜ r ≡ shapeAnswer n k (now (rows .entry)) ⌝ }
 {
     if !in_range(n, k) {

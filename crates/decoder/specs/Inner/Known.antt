@@ -12,8 +12,8 @@ use Rattle.words.specs.Lists.{listAnswer}
 use Rattle.words.specs.Accepted.{matrixAnswer}
 use Rattle.words.specs.declared.answer.Answer.the-variants.{Done}
 use Rattle.parity.specs.ParityChecks.{ParityChecksOf}
-use Rattle.outcomes.specs.declared.outcome.Reading.{Reading}
-use Rattle.outcomes.specs.declared.outcome.Reading.the-variants.{Nearest, Within}
+use Rattle.outcomes.specs.declared.ending.Reading.{Reading}
+use Rattle.outcomes.specs.declared.ending.Reading.the-variants.{Nearest, Within}
 use Rattle.decoder.specs.Causes.{radiusAnswer}
 use Rattle.decoder.specs.declared.matrix.Known.{Known}
 

@@ -4,7 +4,7 @@ use Prim.Native.Nat.{ℕ}
 use lib.ListN.{getD}
 use Rattle.coding.specs.Check.{syndrome}
 use Rattle.outcomes.specs.Outcome.{outcomeOf, wordIn, countIn}
-use Rattle.outcomes.specs.declared.outcome.Reading.{Reading}
+use Rattle.outcomes.specs.declared.ending.Reading.{Reading}
 
 -- the slots of a word, by a list of leaders and check rows
 abbrev pub wordBy : Reading → List ℕ → List ℕ → ℕ → ℕ

@@ -7,7 +7,7 @@ use Rattle.coding.specs.Matrix.{Depends}
 use Rattle.coding.specs.Reduce.{reduce}
 use Rattle.coding.specs.Reduced.{Traced}
 use Rattle.words.specs.Limits.{width}
-use Rattle.linear.specs.declared.reduce.Elimination.{Elimination}
+use Rattle.linear.specs.declared.reduction.Elimination.{Elimination}
 
 -- it ends at the first row that is a sum of earlier ones, or past the last; the rows before it are reduced, in 32 places, and
 -- each reduced row has its message beside it

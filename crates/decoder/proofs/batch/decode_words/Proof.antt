@@ -8,7 +8,7 @@ use borrow.Author.Needs.{needs, scaled-fits}
 use Rattle.coding.specs.Check.{syndrome}
 use Rattle.coding.proofs.LoopLaws.{Over, over-start, over-map-step, over-map-end}
 use Rattle.outcomes.specs.Outcome.{outcomeOf, wordIn, countIn}
-use Rattle.outcomes.specs.declared.outcome.Outcome.{Outcome}
+use Rattle.outcomes.specs.declared.ending.Outcome.{Outcome}
 use Rattle.decoder.specs.Inner.SlotsBy.{wordBy, countBy}
 use Rattle.decoder.proofs.batch.decode_words.Statement.{statement}
 use Rattle.decoder.proofs.batch.decode_words.Tie as tie

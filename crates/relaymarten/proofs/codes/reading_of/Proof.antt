@@ -3,7 +3,7 @@ use mathlib.Core.Path.{_≡_, refl}
 use mathlib.Core.Logic.{_≢_}
 use Prim.Native.Nat.{ℕ, zero, suc}
 use borrow.Author.Needs.{needs}
-use Rattle.outcomes.specs.declared.outcome.Reading.the-variants.{Within}
+use Rattle.outcomes.specs.declared.ending.Reading.the-variants.{Within}
 use Rattle.relaymarten.specs.Reading.{readingOf}
 use Rattle.relaymarten.proofs.codes.reading_of.Statement.{statement}
 use Rattle.relaymarten.proofs.codes.reading_of.Tie as tie

@@ -1,0 +1,52 @@
+// Message: codewords are read back to the messages of the matrix as given.
+use crate::encoding::row_sums;
+use parity::code_of;
+use parity::syndrome;
+use words::answer::Answer;
+use words::answer::Refusal;
+use words::limits::MAX_CHECKS;
+use words::lists::list_cause;
+ghost use mathlib.Core.Path.{_≡_};
+ghost use mathlib.Core.Bool.{not};
+ghost use lib.Dec.{eqb};
+ghost use lib.ListN.{length, getD};
+ghost use Rattle.coding.specs.Lists.{first};
+ghost use Rattle.coding.specs.Check.{syndrome};
+ghost use Rattle.encoder.specs.MessagesRead.{MessagesRead};
+
+// The first word whose syndrome is not 0, or the number of words where there is none.
+fn first_other(checks: &[u32; MAX_CHECKS], words: &[u32]) -> usize
+    ensures { λ r. ⌜ r ≡ first (λ i. not (eqb (syndrome (now (checks .entry)) (getD (now (words .entry)) i 0)) 0)) (length (now (words .entry))) ⌝ }
+{
+    let mut i: usize = 0;
+    while i < words.len() {
+        if syndrome(checks, words[i]) != 0 {
+            return i;
+        }
+        i += 1;
+    }
+    i
+}
+
+// Writes the message of each codeword.
+pub fn message(n: u32, k: u32, rows: &[u32], words: &[u32], out: &mut [u32]) -> Answer
+    ensures { λ r. ⌜ MessagesRead n k (now (rows .entry)) (now (words .entry)) (now (out .entry)) r (now (out .exit)) ⌝ }
+{
+    let c = code_of(n, k, rows);
+    let a = c.answer;
+    let Answer::Done = a else {
+        return a;
+    };
+    let b = list_cause(words, n, out.len());
+    let Answer::Done = b else {
+        return b;
+    };
+    let checks = c.checks;
+    let bad = first_other(&checks, words);
+    if bad != words.len() {
+        return Answer::Refused(Refusal::NoCodeword(bad));
+    }
+    let messages = c.messages;
+    row_sums(&messages, words, out);
+    Answer::Done
+}
