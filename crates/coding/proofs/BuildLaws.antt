@@ -79,7 +79,8 @@ fills-first syn (w ∷ ws) L s (b, a) h z =
         kept (λ q. b (sym at ∙ q)) ∙ at
         ∙ ap (λ (b : Bool). orNoLeader (pickFirst b w (firstIn (having syn s) ws))) (sym (eq-eqb (syn w) s e))
     go (no k) kept more =
-        more (other (eqb (getD L (syn w) 0) (noLeader)) ∙ z) ∙ ap (λ (b : Bool). orNoLeader (pickFirst b w (firstIn (having syn s) ws))) (sym (ne-eqb (syn w) s k))
+        more (other (eqb (getD L (syn w) 0) (noLeader)) ∙ z) ∙ ap (λ (b : Bool). orNoLeader (pickFirst b w (firstIn (having syn s) ws)))
+        (sym (ne-eqb (syn w) s k))
       where
         other : (b : Bool) → getD (cond b (set L (syn w) w) L) s 0 ≡ getD L s 0
         other true = getD-set-other L (syn w) s w 0 (λ e. k (sym e))
@@ -108,7 +109,8 @@ words-are zero (suc t) = tt
 words-are (suc m) (suc t) =
     all-append (Weighs (suc m) (suc t)) (words m (suc t)) (map (λ w. 2 ^ m + w) (words m t))
     (all-more (Weighs m (suc t)) (Weighs (suc m) (suc t)) (λ w h. (omega (arith, pow-suc 2 m, h .0), h .1)) (words m (suc t)) (words-are m (suc t)))
-    (all-map (Weighs m t) (Weighs (suc m) (suc t)) (λ w. 2 ^ m + w) (λ w h. (omega (arith, pow-suc 2 m, h .0), weight-top m w (h .0) ∙ ap suc (h .1))) (words m t) (words-are m t))
+    (all-map (Weighs m t) (Weighs (suc m) (suc t)) (λ w. 2 ^ m + w)
+    (λ w h. (omega (arith, pow-suc 2 m, h .0), weight-top m w (h .0) ∙ ap suc (h .1))) (words m t) (words-are m t))
 
 pub order-light : (n t : ℕ) → All (λ w. weight w < t) (order n t)
 order-light n zero = tt
@@ -124,7 +126,8 @@ pub built : (n : ℕ) (rs : List ℕ) → Inside n rs → length (frees n rs) < 
     → getD (fills (syndromeOf n rs) (blanks (2 ^ length (frees n rs))) (order n (suc (length (frees n rs))))) s 0 ≡ leaderOf n rs s
 built n rs fits small s h =
     fills-first (syndromeOf n rs) (order n (suc c)) (blanks (2 ^ c)) s
-    (all-more (λ w. weight w < suc c) (λ w. w ≢ noLeader) (λ w l e. absurd (omega (arith, ap weight e ∙ ones-ones 32))) (order n (suc c)) (order-light n (suc c)))
+    (all-more (λ w. weight w < suc c) (λ w. w ≢ noLeader) (λ w l e. absurd (omega (arith, ap weight e ∙ ones-ones 32))) (order n (suc c))
+    (order-light n (suc c)))
     (rw (length-replicate (2 ^ c) (noLeader)) h) (getD-replicate (2 ^ c) s (noLeader) 0 h)
     ∙ go (firstIn p (order n (suc c))) (first-lightest n (suc c) p)
   where
@@ -135,7 +138,8 @@ built n rs fits small s h =
     p = having (syndromeOf n rs) s
 
     go : (o : Option ℕ) → InOrder p n (suc c) o → orNoLeader o ≡ leaderOf n rs s
-    go none f = absurd (f (leaderOf n rs s) (leader-lightest n rs fits s h .below) (suc-le-suc (leader-light n rs fits s h)) (leader-lightest n rs fits s h .passes))
+    go none f = absurd (f (leaderOf n rs s) (leader-lightest n rs fits s h .below) (suc-le-suc (leader-light n rs fits s h))
+        (leader-lightest n rs fits s h .passes))
     go (some b) f = lightest-one p (2 ^ n) b (leaderOf n rs s) (f .0) (leader-lightest n rs fits s h)
 
 -- ---- the recursion that goes through the words of one weight

@@ -37,7 +37,8 @@ encode-place (r ∷ rs) w q =
     bit-xor (sel (w % 2) r) (encode rs (w / 2)) q
     ∙ ap₂ (λ (x y : ℕ). (x + y) % 2) (bit-sel (w % 2) r q (omega arith)) (encode-place rs (w / 2) q)
     ∙ sym (parity-step w (bit r q + 2 * column rs q)
-    ∙ ap₂ (λ (x y : ℕ). (min (w % 2) x + parity (w / 2) y) % 2) (cons-odd (bit r q) (column rs q) (bit-lt r q)) (cons-half (bit r q) (column rs q) (bit-lt r q)))
+    ∙ ap₂ (λ (x y : ℕ). (min (w % 2) x + parity (w / 2) y) % 2) (cons-odd (bit r q) (column rs q) (bit-lt r q))
+    (cons-half (bit r q) (column rs q) (bit-lt r q)))
 
 -- a place of what is left is the parity by that place's check row
 pub rest-place : (B : List ℕ) (w q : ℕ) → bit (rest B w) q ≡ parity w (check B q)
@@ -84,7 +85,8 @@ cons-xor : (p q s t : ℕ) → p < 2 → q < 2 → (p + 2 * s) ⊕ (q + 2 * t) �
 cons-xor p q s t hp hq =
     halves-eq _ _
     (xor-half (p + 2 * s) (q + 2 * t) ∙ ap₂ _⊕_ (cons-half p s hp) (cons-half q t hq) ∙ sym (cons-half ((p + q) % 2) (s ⊕ t) (omega arith)))
-    (xor-digit (p + 2 * s) (q + 2 * t) ∙ ap₂ (λ (x y : ℕ). (x + y) % 2) (cons-odd p s hp) (cons-odd q t hq) ∙ sym (cons-odd ((p + q) % 2) (s ⊕ t) (omega arith)))
+    (xor-digit (p + 2 * s) (q + 2 * t) ∙ ap₂ (λ (x y : ℕ). (x + y) % 2) (cons-odd p s hp) (cons-odd q t hq)
+    ∙ sym (cons-odd ((p + q) % 2) (s ⊕ t) (omega arith)))
 
 pub syndrome-xor : (hs : List ℕ) (a b : ℕ) → syndrome hs (a ⊕ b) ≡ syndrome hs a ⊕ syndrome hs b
 syndrome-xor [] a b = refl
@@ -101,7 +103,8 @@ places-bit digit f (x ∷ l) (suc j) h =
     ∙ places-bit digit f l j (le-of-suc-le-suc h)
 
 -- a syndrome of 0 is a parity of 0 by each check row
-pub syndrome-each : (f : ℕ → ℕ) (rs : List ℕ) (i w : ℕ) → syndrome (map f (freesFrom i rs)) w ≡ 0 → (j : ℕ) → j < length rs → getD rs j 0 ≡ 0 → parity w (f (i + j)) ≡ 0
+pub syndrome-each : (f : ℕ → ℕ) (rs : List ℕ) (i w : ℕ) → syndrome (map f (freesFrom i rs)) w ≡ 0 → (j : ℕ) → j < length rs → getD rs j 0 ≡ 0
+    → parity w (f (i + j)) ≡ 0
 syndrome-each f [] i w e j h z = absurd (omega arith)
 syndrome-each f (zero ∷ rs) i w e zero h z = rw add-zero (omega arith)
 syndrome-each f (zero ∷ rs) i w e (suc j) h z = rw (add-suc i j, ← suc-add i j) (syndrome-each f rs (suc i) w (omega arith) j (omega arith) z)

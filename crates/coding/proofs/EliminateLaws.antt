@@ -81,7 +81,8 @@ module _ (n : ℕ) (rs : List ℕ) (fits : Inside n rs) (ind : Independent rs) w
   steps (suc i) h =
       let B = reduce n (take i rs) in
       let R : ByPlace n (reduce n (take i rs)) = whole n (take i rs) (inside-take n rs fits i) .reduced in
-      let e : suc (length (freesFrom 0 (addTo n (reduce n (take i rs)) (rest (reduce n (take i rs)) (getD rs i 0))))) ≡ length (freesFrom 0 (reduce n (take i rs))) =
+      let e : suc (length (freesFrom 0 (addTo n (reduce n (take i rs)) (rest (reduce n (take i rs)) (getD rs i 0)))))
+      ≡ length (freesFrom 0 (reduce n (take i rs))) =
       added-size n (reduce n (take i rs)) R (getD rs i 0) (fits i h) (λ z. independent-none rs ind i h (rest-depends n rs fits i z)) in
       rw (reduce-take n rs i h) (omega (arith, e, steps i (omega arith)))
 

@@ -54,7 +54,9 @@ module _ (n : ℕ) (rs : List ℕ) (fits : Inside n rs) where
   pub syndromeOf-lt : (w : ℕ) → syndromeOf n rs w < 2 ^ length (frees n rs)
   syndromeOf-lt w = rw (length-map (frees n rs) (check (reduce n rs))) at (syndrome-lt (checks n rs) w)
 
-  pub near-is : (w : ℕ) → w < 2 ^ n → Codeword rs (nearestOf n rs w) × (distance w (nearestOf n rs w) ≡ weight (leaderOf n rs (syndromeOf n rs w))) × ((c : ℕ) → Codeword rs c → distance w (nearestOf n rs w) ≤ distance w c)
+  pub near-is : (w : ℕ) → w < 2 ^ n
+      → Codeword rs (nearestOf n rs w) × (distance w (nearestOf n rs w) ≡ weight (leaderOf n rs (syndromeOf n rs w)))
+      × ((c : ℕ) → Codeword rs c → distance w (nearestOf n rs w) ≤ distance w c)
   near-is w h =
       nearest n (syndromeOf n rs) (syndrome-xor (checks n rs)) (Codeword rs)
       (λ v l e. syndrome-codeword n rs fits v l .0 e) (λ v c. (codeword-lt v c, syndrome-codeword n rs fits v (codeword-lt v c) .1 c))

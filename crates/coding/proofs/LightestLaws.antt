@@ -51,7 +51,8 @@ found p (suc m) = go (p m) refl (lightestBelow p m) (found p m)
         choose true q = record {
           passes = rw e tt;
           below = le-refl (suc m);
-          light = last (λ v. T (p v) → weight m ≤ weight v) (λ v h t. omega (arith, f .light v h t, ltb→lt (weight m) (weight b) (rw q tt))) (λ t. le-refl (weight m));
+          light = last (λ v. T (p v) → weight m ≤ weight v) (λ v h t. omega (arith, f .light v h t, ltb→lt (weight m) (weight b) (rw q tt)))
+              (λ t. le-refl (weight m));
           first = last (λ v. T (p v) → weight v ≡ weight m → m ≤ v)
               (λ v h t k. absurd (omega (arith, f .light v h t, ltb→lt (weight m) (weight b) (rw q tt)))) (λ t k. le-refl m);
         }

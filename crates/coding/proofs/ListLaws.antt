@@ -1,9 +1,8 @@
 -- Laws of lists: entries of mapped and tabulated lists. Assumes nothing.
 use mathlib.Core.Path.{_≡_, refl, ap, ap₂}
-use mathlib.Core.List.{List, [], _∷_, _++_, map}
-use Prim.Native.Nat.{ℕ, zero, suc, _+_, _-_, _≤_, _<_, suc-le-suc}
+use mathlib.Core.List.{List, [], _∷_, map}
+use Prim.Native.Nat.{ℕ, zero, suc, _-_, _≤_, _<_, suc-le-suc}
 use native.Mathlib.Nat.{le-of-suc-le-suc, zero-lt-suc}
-use native.Mathlib.Numerals.{add-one}
 use native.Mathlib.Omega.{arith}
 use lib.ListN.{length, getD, take}
 use Rattle.coding.specs.Lists.{tabulate}
@@ -35,14 +34,6 @@ pub take-tabulate : (f : ℕ → ℕ) (m r : ℕ) → r ≤ m → take r (tabula
 take-tabulate f m zero h = refl
 take-tabulate f zero (suc r) h = absurd (omega arith)
 take-tabulate f (suc m) (suc r) h = ap (λ (l : List ℕ). f zero ∷ l) (take-tabulate (λ i. f (suc i)) m r (le-of-suc-le-suc h))
-
-tabulate-suc : (f : ℕ → ℕ) (m : ℕ) → tabulate f m ++ f m ∷ [] ≡ tabulate f (suc m)
-tabulate-suc f zero = refl
-tabulate-suc f (suc m) = ap (λ (l : List ℕ). f zero ∷ l) (tabulate-suc (λ i. f (suc i)) m)
-
--- one more entry
-pub tabulate-more : (f : ℕ → ℕ) (m : ℕ) → tabulate f m ++ f m ∷ [] ≡ tabulate f (m + 1)
-tabulate-more f m = rw add-one (tabulate-suc f m)
 
 -- functions that agree below m are tabulated alike
 pub tabulate-same : (f g : ℕ → ℕ) (m : ℕ) → ((i : ℕ) → i < m → f i ≡ g i) → tabulate f m ≡ tabulate g m

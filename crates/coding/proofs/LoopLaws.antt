@@ -58,9 +58,6 @@ over-next (x ∷ new) [] (suc i) h =
     ∙ List·getD-eq-default [] 0 {n = i} (omega arith)
 over-next (x ∷ new) (y ∷ old) (suc i) h = over-next new old i (le-of-suc-le-suc h)
 
-pub over-all : (new old : List ℕ) (i : ℕ) → i ≡ length new → over new old i ≡ new ++ drop (length new) old
-over-all new old i e = rw (e, take-length)
-
 -- a whole list of the same length is replaced
 pub over-whole : (new old : List ℕ) (i : ℕ) → length new ≡ length old → length old ≤ i → over new old i ≡ new
 over-whole [] [] i e h = ap₂ _++_ (take-nil i) (drop-nil i)

@@ -49,7 +49,8 @@ encode-lt n (r ∷ rs) f u =
 -- ---- a loop over the rows: w is the sum so far, and the rows from i on with the places of m are still to come
 
 encode-drop : (rs : List ℕ) (i m : ℕ) → i < length rs → encode (drop i rs) m ≡ sel (m % 2) (getD rs i 0) ⊕ encode (drop (i + 1) rs) (m / 2)
-encode-drop rs i m h = ap (λ (l : List ℕ). encode l m) (drop-cons rs i 0 h) ∙ ap (λ (n : ℕ). sel (m % 2) (getD rs i 0) ⊕ encode (drop n rs) (m / 2)) (sym (add-one i))
+encode-drop rs i m h =
+    ap (λ (l : List ℕ). encode l m) (drop-cons rs i 0 h) ∙ ap (λ (n : ℕ). sel (m % 2) (getD rs i 0) ⊕ encode (drop n rs) (m / 2)) (sym (add-one i))
 
 pub encode-step : (rs : List ℕ) (i m w e : ℕ) → i < length rs → w ⊕ encode (drop i rs) m ≡ e
     → (w ⊕ sel (m % 2) (getD rs i 0)) ⊕ encode (drop (i + 1) rs) (m / 2) ≡ e

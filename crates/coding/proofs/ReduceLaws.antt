@@ -18,7 +18,8 @@ use Rattle.coding.specs.Matrix.{sel, encode, Codeword, Inside}
 use Rattle.coding.specs.Reduced.{Leads}
 use Rattle.coding.specs.Reduce.{rest, wipe, put, addTo, reduceFrom, reduce}
 use Rattle.coding.proofs.WordLaws.{xor-eq, half-lt, xor-cancel-r, bit-lt, bit-half, bit-zeroth, bit-of-zero, bit-xor}
-use Rattle.coding.proofs.MatrixLaws.{sel-lt, encode-xor, encode-zero, encode-kept, encode-lt, codeword-zero, codeword-xor, sel-in, encode-in, row-codeword}
+use Rattle.coding.proofs.MatrixLaws.{sel-lt, encode-xor, encode-zero, encode-kept, encode-lt, codeword-zero, codeword-xor, sel-in}
+use Rattle.coding.proofs.MatrixLaws.{encode-in, row-codeword}
 use Rattle.coding.proofs.CheckLaws.{bit-sel}
 use Rattle.coding.proofs.PivotLaws.{ByPlace, rest-pivot, row-kept, encode-twice}
 
@@ -225,7 +226,8 @@ module _ (C : ℕ → Type 0) (C-zero : C 0) (C-xor : (a b : ℕ) → C a → C 
       → (p : ℕ) → p < length (reduceFrom n B rs) → C (getD (reduceFrom n B rs) p 0)
   reduce-in n [] B f g = f
   reduce-in n (r ∷ rs) B f g =
-      reduce-in n rs (addTo n B (rest B r)) (added-in n B (rest B r) f (C-xor _ _ (g 0 (omega arith)) (encode-in C C-zero C-xor B f r))) (λ i h. g (suc i) (suc-le-suc h))
+      reduce-in n rs (addTo n B (rest B r)) (added-in n B (rest B r) f (C-xor _ _ (g 0 (omega arith)) (encode-in C C-zero C-xor B f r)))
+      (λ i h. g (suc i) (suc-le-suc h))
 
 -- reduced rows that keep what was kept, and each of the rows
 pub record Spans (n : ℕ) (B rs A : List ℕ) : Type 0 where

@@ -75,7 +75,8 @@ pub spread-light : (B : List ℕ) (s : ℕ) → weight (spread B s) ≤ weight s
 spread-light [] s = omega (arith, weight-zero)
 spread-light (zero ∷ rs) s =
     let y = s % 2 + 2 * spread rs (s / 2) in
-    let e : weight y ≡ s % 2 + weight (spread rs (s / 2)) = ones-step y ∙ ap₂ (λ (a b : ℕ). a + weight b) (lowest s (spread rs (s / 2))) (halved s (spread rs (s / 2))) in
+    let e : weight y ≡ s % 2 + weight (spread rs (s / 2)) = ones-step y ∙ ap₂ (λ (a b : ℕ). a + weight b) (lowest s (spread rs (s / 2)))
+    (halved s (spread rs (s / 2))) in
     omega (arith, e, ones-step s, spread-light rs (s / 2))
 spread-light (suc r ∷ rs) s =
     let y = 2 * spread rs s in

@@ -1,3 +1,3 @@
-pub mod Blanks
-pub mod Beside
-pub mod SystematicSyndrome
+pub mod Blanks  -- how many entries are blank
+pub mod Beside  -- entries beside the reduced rows
+pub mod SystematicSyndrome  -- the syndrome by a systematic matrix

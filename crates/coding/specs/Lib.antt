@@ -1,13 +1,13 @@
-pub mod Lists
-pub mod Word
-pub mod Matrix
-pub mod Reduced
-pub mod Reduce
-pub mod Check
-pub mod Weight
-pub mod Leader
-pub mod Order
-pub mod Radius
-pub mod Systematic
-pub mod Columns
-pub mod Inner
+pub mod Lists  -- small tools: first index, zeros, tabulate
+pub mod Word  -- words: sum, place, weight, distance
+pub mod Matrix  -- sums of rows, codewords, messages, independence
+pub mod Reduced  -- the reduced row echelon form
+pub mod Reduce  -- how it is computed
+pub mod Check  -- check rows and syndromes
+pub mod Weight  -- weight counts, minimum distance
+pub mod Leader  -- coset leaders
+pub mod Order  -- words by weight and number, and the list they fill
+pub mod Radius  -- demand 3
+pub mod Systematic  -- a matrix [P | I]
+pub mod Columns  -- codes given by columns
+pub mod Inner  -- for private functions

@@ -24,7 +24,8 @@ module _ (n k : ℕ) (rows : List ℕ) (A : Accepted n k rows) (reading : Readin
   outcome-by : (w : ℕ) → outcomeOf reading w (getD leaders (syndrome (padded maxChecks (checks n rows)) w) 0) ≡ decodedAs n rows reading w
   outcome-by w =
       ap (outcomeOf reading w)
-      (ap₂ (λ (l : List ℕ) (s : ℕ). getD l s 0) is (checks-pad n k rows A w) ∙ getD-tabulate (leaderOf n rows) (2 ^ (n - k)) (syndromeOf n rows w) (syndrome-below n k rows A w))
+      (ap₂ (λ (l : List ℕ) (s : ℕ). getD l s 0) is (checks-pad n k rows A w) ∙ getD-tabulate (leaderOf n rows) (2 ^ (n - k))
+      (syndromeOf n rows w) (syndrome-below n k rows A w))
 
   pub words-are : (ws : List ℕ) → map (wordBy reading leaders (padded maxChecks (checks n rows))) ws ≡ map (wordOf n rows reading) ws
   words-are ws = map-same _ _ ws (λ i h. ap (λ (o : Outcome). wordIn o (getD ws i 0)) (outcome-by (getD ws i 0)))

@@ -1,2 +1,2 @@
-pub mod Known
-pub mod SlotsBy
+pub mod Known  -- what is taken from the matrix
+pub mod SlotsBy  -- the slots by lists

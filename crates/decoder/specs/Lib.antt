@@ -1,3 +1,3 @@
-pub mod Causes
-pub mod Decoded
-pub mod Inner
+pub mod Causes  -- causes 1 to 9
+pub mod Decoded  -- what Decode answers and leaves
+pub mod Inner  -- for private functions

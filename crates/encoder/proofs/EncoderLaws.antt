@@ -56,7 +56,8 @@ module _ (n k : ℕ) (rows : List ℕ) (A : Accepted n k rows) where
 
       same : (w : ℕ) → Codeword rows w → messageOf rows w ≡ encode M w
       same w c =
-          trace-message rows (A .independent) (encode M w) w (message-trace 32 rows M (inside-wide n 32 (omega (arith, A .range .places)) rows (A .inside)) t w c)
+          trace-message rows (A .independent) (encode M w) w (message-trace 32 rows M
+          (inside-wide n 32 (omega (arith, A .range .places)) rows (A .inside)) t w c)
 
 -- what Encode and Message promise, from the answer and the slots
 module _ (n k : ℕ) (rows words before : List ℕ) (r : Answer) (after : List ℕ) where

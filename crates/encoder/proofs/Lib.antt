@@ -1,1 +1,1 @@
-mod EncoderLaws
+mod EncoderLaws  -- what Encode and Message promise

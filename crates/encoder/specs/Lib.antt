@@ -1,2 +1,2 @@
-pub mod Encoded
-pub mod MessagesRead
+pub mod Encoded  -- what Encode leaves
+pub mod MessagesRead  -- what Message leaves

@@ -1,2 +1,2 @@
-pub mod Lanes
-pub mod Steps
+pub mod Lanes  -- numbers side by side
+pub mod Steps  -- 000's steps

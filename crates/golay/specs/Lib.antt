@@ -1,4 +1,4 @@
-pub mod Encoded
-pub mod Decoded
-pub mod MessageRead
-pub mod Inner
+pub mod Encoded  -- what encode answers
+pub mod Decoded  -- what decode answers
+pub mod MessageRead  -- what message answers
+pub mod Inner  -- for private functions

@@ -1,1 +1,1 @@
-pub mod GolayLaws
+pub mod GolayLaws  -- accepted, minimum distance 8, P times P

@@ -1,1 +1,1 @@
-pub mod Golay
+pub mod Golay  -- the matrix

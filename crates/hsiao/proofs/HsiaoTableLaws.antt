@@ -9,7 +9,7 @@ use Rattle.coding.specs.Word.{weight}
 use Rattle.coding.specs.Columns.{OddColumns, SplitMinimumDistance}
 use Rattle.coding.proofs.ColumnLaws.{four-exactly}
 use Rattle.coding.proofs.ColumnTestLaws.{oddColumns, odd-columns}
-use Rattle.hsiao.specs.Table.{columns, Totals}
+use Rattle.hsiao.specs.Table.{columns, HsiaoTable}
 
 pub columns-odd : OddColumns 8 columns
 unfolding columns oddColumns onesIn
@@ -31,6 +31,7 @@ some-column = lit< tt
 pub distance-four : SplitMinimumDistance 8 columns 4
 distance-four = four-exactly 8 columns columns-odd 0 some-column first-weight
 
-pub totals : Totals
+-- what is promised of the table
+pub table-is : HsiaoTable
 unfolding columns ones
-totals = record { ones = refl; each-row = refl }
+table-is = record { odd = columns-odd; ones = refl; each-row = refl }

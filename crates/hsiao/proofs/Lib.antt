@@ -1,5 +1,5 @@
-pub mod HsiaoTableLaws
-pub mod DiagonalLaws
-pub mod PlaceLaws
-pub mod SingleErrorLaws
-pub mod HsiaoDecodeLaws
+pub mod HsiaoTableLaws  -- the table of columns
+pub mod DiagonalLaws  -- the sum of columns by diagonals
+pub mod PlaceLaws  -- the place of a column
+pub mod SingleErrorLaws  -- the outcome by tests of the syndrome
+pub mod HsiaoDecodeLaws  -- what Decode promises

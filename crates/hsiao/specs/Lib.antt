@@ -1,5 +1,5 @@
-pub mod Table
-pub mod Outcome
-pub mod Encoded
-pub mod Decoded
-pub mod MessageRead
+pub mod Table  -- the columns, the syndrome
+pub mod Outcome  -- how a word ends
+pub mod Encoded  -- what encode answers
+pub mod Decoded  -- what decode answers
+pub mod MessageRead  -- what message answers

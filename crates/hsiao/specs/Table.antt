@@ -7,7 +7,7 @@ use lib.ListN.{replicate}
 use Rattle.coding.specs.Lists.{tabulate, total}
 use Rattle.coding.specs.Word.{bit, weight}
 use Rattle.coding.specs.Order.{words}
-use Rattle.coding.specs.Columns.{SplitWord, units, splitSyndrome, SplitPlaces, SplitCodeword}
+use Rattle.coding.specs.Columns.{SplitWord, units, splitSyndrome, SplitPlaces, SplitCodeword, OddColumns}
 use Rattle.hsiao.specs.declared.word.Word.{Word}
 
 -- the columns of the data places: the bytes of weight 3 in rising order, then these of weight 5
@@ -31,7 +31,9 @@ pub record HasSyndrome (w : Word) (r : ℕ) : Type 0 where
   pub sum : r ≡ syndromeOf w
   pub codeword : (r ≡ 0) ↔ IsCodeword w
 
--- the totals of 000's Table 4.1, the columns of the check places included: the ones of all columns, and those of each check row
-pub record Totals : Type 0 where
+-- 01's table: different columns of odd weight, none a single bit; and with the columns of the check places the totals of 000's
+-- Table 4.1, the ones of all columns and those of each check row
+pub record HsiaoTable : Type 0 where
+  pub odd : OddColumns 8 columns
   pub ones : total (map weight (units 8 ++ columns)) ≡ 216
   pub each-row : tabulate (λ j. total (map (λ x. bit x j) (units 8 ++ columns))) 8 ≡ replicate 8 27

@@ -1,3 +1,3 @@
-mod TryLaws
-pub mod BuiltLaws
-pub mod LeaderPromiseLaws
+mod TryLaws  -- one word after the other
+pub mod BuiltLaws  -- the finished list
+pub mod LeaderPromiseLaws  -- what the calls promise

@@ -1,1 +1,1 @@
-pub mod Built
+pub mod Built  -- what the build asks and leaves

@@ -1,3 +1,3 @@
-pub mod Leaders
-pub mod LeadersBy
-pub mod Inner
+pub mod Leaders  -- what leaders_of answers and leaves
+pub mod LeadersBy  -- what fill_leaders answers and leaves
+pub mod Inner  -- for private functions

@@ -1,1 +1,1 @@
-pub mod Eliminated
+pub mod Eliminated  -- what the elimination ends with

@@ -1,4 +1,4 @@
-pub mod Reduction
-pub mod ReducedRows
-pub mod Judged
-pub mod Inner
+pub mod Judged  -- what accept answers
+pub mod ReducedRows  -- what reduced_rows answers
+pub mod Reduction  -- what reduce answers
+pub mod Inner  -- for private functions

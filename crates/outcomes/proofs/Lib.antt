@@ -1,1 +1,1 @@
-pub mod DemandLaws
+pub mod DemandLaws  -- demand 3 of the outcome of a word

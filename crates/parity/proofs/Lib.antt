@@ -1,4 +1,4 @@
-mod JoinedLaws
-mod CheckPackLaws
-pub mod ParityLaws
-pub mod CodeOfLaws
+mod JoinedLaws  -- digits joined into a word
+mod CheckPackLaws  -- check rows read off a table
+pub mod ParityLaws  -- the check rows are those of the definition
+pub mod CodeOfLaws  -- what the code leaves known to a caller

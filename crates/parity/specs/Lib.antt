@@ -1,1 +1,1 @@
-pub mod ParityChecks
+pub mod ParityChecks  -- what parity_checks and code_of answer

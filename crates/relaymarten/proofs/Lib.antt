@@ -1,1 +1,1 @@
-pub mod ToldLaws
+pub mod ToldLaws  -- an answer told as number and value

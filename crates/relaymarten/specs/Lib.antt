@@ -1,3 +1,3 @@
-pub mod Told
-pub mod Reading
-pub mod Version
+pub mod Told  -- an answer as number and value
+pub mod Reading  -- the reading as C passes it
+pub mod Version  -- the version

@@ -32,7 +32,18 @@ pub extern "C" fn relay_describe(
     lightest: &mut u32,
     value: &mut usize,
 ) -> u32
-    ensures { λ r. ⌜ Told (λ a. DescriptionOf n k (now (rows .entry)) (record { answer = a; rows = now (reduced .exit); checks = now (checks .exit); dmin = now (dmin .exit); counts = now (counts .exit); lightest = now (lightest .exit) })) (matrixAnswer n k (now (rows .entry))) r (now (value .exit)) ⌝ }
+    ensures { λ r. ⌜ Told
+        (λ a. DescriptionOf n k (now (rows .entry)) (record {
+          answer = a;
+          rows = now (reduced .exit);
+          checks = now (checks .exit);
+          dmin = now (dmin .exit);
+          counts = now (counts .exit);
+          lightest = now (lightest .exit);
+        }))
+        (matrixAnswer n k (now (rows .entry)))
+        r
+        (now (value .exit)) ⌝ }
 {
     let d = describe(n, k, rows);
     let first = d.rows;
@@ -57,7 +68,11 @@ pub extern "C" fn relay_encode(
     out: &mut [u32],
     value: &mut usize,
 ) -> u32
-    ensures { λ r. ⌜ Told (λ a. Encoded n k (now (rows .entry)) (now (messages .entry)) (now (out .entry)) a (now (out .exit))) (encodeAnswer n k (now (rows .entry)) (now (messages .entry)) (length (now (out .entry)))) r (now (value .exit)) ⌝ }
+    ensures { λ r. ⌜ Told
+        (λ a. Encoded n k (now (rows .entry)) (now (messages .entry)) (now (out .entry)) a (now (out .exit)))
+        (encodeAnswer n k (now (rows .entry)) (now (messages .entry)) (length (now (out .entry))))
+        r
+        (now (value .exit)) ⌝ }
 {
     let a = encode(n, k, rows, messages, out);
     tell(a, value)
@@ -73,7 +88,11 @@ pub extern "C" fn relay_message(
     out: &mut [u32],
     value: &mut usize,
 ) -> u32
-    ensures { λ r. ⌜ Told (λ a. MessagesRead n k (now (rows .entry)) (now (words .entry)) (now (out .entry)) a (now (out .exit))) (messageAnswer n k (now (rows .entry)) (now (words .entry)) (length (now (out .entry)))) r (now (value .exit)) ⌝ }
+    ensures { λ r. ⌜ Told
+        (λ a. MessagesRead n k (now (rows .entry)) (now (words .entry)) (now (out .entry)) a (now (out .exit)))
+        (messageAnswer n k (now (rows .entry)) (now (words .entry)) (length (now (out .entry))))
+        r
+        (now (value .exit)) ⌝ }
 {
     let a = message(n, k, rows, words, out);
     tell(a, value)

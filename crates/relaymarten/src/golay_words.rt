@@ -26,7 +26,11 @@ pub extern "C" fn relay_golay_decode(
     count: &mut u8,
     value: &mut usize,
 ) -> u32
-    ensures { λ r. ⌜ Told (λ a. Decoded received (record { answer = a; word = now (word .exit); count = now (count .exit) })) (decodeAnswer received) r (now (value .exit)) ⌝ }
+    ensures { λ r. ⌜ Told
+        (λ a. Decoded received (record { answer = a; word = now (word .exit); count = now (count .exit) }))
+        (decodeAnswer received)
+        r
+        (now (value .exit)) ⌝ }
 {
     let d = decode(received);
     *word = d.word;

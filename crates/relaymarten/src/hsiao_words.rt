@@ -20,7 +20,9 @@ pub extern "C" fn relay_hsiao_encode(bits: u64) -> u8
 // Corrects the word in place, at radius 1, and returns the count; a far word is left as it was, with count 255. No word is refused.
 #[no_mangle]
 pub extern "C" fn relay_hsiao_decode(check: &mut u8, bits: &mut u64) -> u8
-    ensures { λ r. ⌜ Decoded (record { check = now (check .entry); «data» = now (bits .entry) }) (record { word = record { check = now (check .exit); «data» = now (bits .exit) }; count = r }) ⌝ }
+    ensures { λ r. ⌜ Decoded
+        (record { check = now (check .entry); «data» = now (bits .entry) })
+        (record { word = record { check = now (check .exit); «data» = now (bits .exit) }; count = r }) ⌝ }
 {
     let w = Word {
         check: *check,
@@ -36,7 +38,11 @@ pub extern "C" fn relay_hsiao_decode(check: &mut u8, bits: &mut u64) -> u8
 // Writes the data of a codeword.
 #[no_mangle]
 pub extern "C" fn relay_hsiao_message(check: u8, bits: u64, out: &mut u64, value: &mut usize) -> u32
-    ensures { λ r. ⌜ Told (λ a. MessageRead (record { check = check; «data» = bits }) (record { answer = a; «data» = now (out .exit) })) (messageAnswer (record { check = check; «data» = bits })) r (now (value .exit)) ⌝ }
+    ensures { λ r. ⌜ Told
+        (λ a. MessageRead (record { check = check; «data» = bits }) (record { answer = a; «data» = now (out .exit) }))
+        (messageAnswer (record { check = check; «data» = bits }))
+        r
+        (now (value .exit)) ⌝ }
 {
     let w = Word { check, data: bits };
     let b = message(w);

@@ -1,5 +1,5 @@
-pub mod SpanLaws
-pub mod ContentLaws
-pub mod FieldLaws
-pub mod PlacedLaws
-pub mod StepsMeaning
+pub mod SpanLaws  -- the words of a span
+pub mod ContentLaws  -- the content of a tag
+pub mod FieldLaws  -- fields one after the other
+pub mod PlacedLaws  -- rows and words stand within the bytes
+pub mod StepsMeaning  -- what the steps of the reader mean

@@ -1,5 +1,5 @@
-pub mod Fault
-pub mod Field
-pub mod Words
-pub mod Sheet
-pub mod SheetRead
+pub mod Fault  -- causes 12 and 13
+pub mod Field  -- one field
+pub mod Words  -- words of four bytes
+pub mod Sheet  -- the sheet that bytes say
+pub mod SheetRead  -- what read answers

@@ -1,1 +1,1 @@
-pub mod InputLaws
+pub mod InputLaws  -- how much of an input decides

@@ -1,1 +1,1 @@
-pub mod Enough
+pub mod Enough  -- how much of an input decides

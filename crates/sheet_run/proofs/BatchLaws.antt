@@ -113,7 +113,8 @@ module _ {B : Batch} {r : Answer} {after : Lent}
     counts-room = omega (arith, counts-length, length-take (length (B .words)) (after .counts))
 
     pub done-output : (x : ℕ) → x ≡ ifDone r (dmin (B .rows)) 0
-        → codeLine (B .n) (B .k) x ++ slotLines (B .n) (take (length (B .words)) (after .codewords)) (take (length (B .words)) (after .counts)) ≡ batchOutput (B .n) (B .k) (B .rows) (B .reading) (B .words)
+        → codeLine (B .n) (B .k) x ++ slotLines (B .n) (take (length (B .words)) (after .codewords))
+        (take (length (B .words)) (after .counts)) ≡ batchOutput (B .n) (B .k) (B .rows) (B .reading) (B .words)
     unfolding batchOutput
     done-output x e =
         ap₂ (λ (y : ℕ) (l : List ℕ). codeLine (B .n) (B .k) y ++ l) (rw d at e)

@@ -1,3 +1,4 @@
-pub mod Appended
-pub mod Loaded
-pub mod Slots
+pub mod Appended  -- what a writer leaves
+pub mod Loaded  -- what a copy leaves
+pub mod Slots  -- the lines by Decode's slots
+pub mod Room  -- how many bytes writers ask for

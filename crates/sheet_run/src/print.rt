@@ -6,14 +6,20 @@ ghost use mathlib.Core.Path.{_≡_};
 ghost use Rattle.sheet_run.specs.Inner.Appended.{Appends};
 ghost use Rattle.sheet_run.specs.Decimal.{decimal};
 ghost use Rattle.sheet_run.specs.Output.{refusedLine, codeLine, digitsOf};
+ghost use Rattle.sheet_run.specs.Inner.Room.{numberRoom, refusalRoom, codeRoom, endingRoom, lineRoom};
 ghost use Rattle.sheet_run.specs.Inner.Slots.{slotEnding, slotLine, slotLines};
 ghost use Rattle.words.specs.Limits.{width};
 
+// The characters that are printed besides digits and texts.
 const SPACE: u8 = 32;
 
 const LINE_FEED: u8 = 10;
 
+// The digit 0; the others follow it.
 const ZERO: u8 = 48;
+
+// The count of a far word.
+const FAR: u8 = 255;
 
 fn put(out: &mut [u8], at: usize, b: u8) -> usize
     requires { ⌜ at + 1 ≤ length (now out) ⌝ }
@@ -49,9 +55,9 @@ fn put_decimal(out: &mut [u8], at: usize, x: usize) -> usize
 
 // A number and the character after it.
 fn put_number(out: &mut [u8], at: usize, x: usize, after: u8) -> usize
-    requires { ⌜ at + 21 ≤ length (now out) ⌝ }
+    requires { ⌜ at + numberRoom ≤ length (now out) ⌝ }
     ensures { λ r. ⌜ Appends (now (out .entry)) at (decimal x ++ (after ∷ [])) (now (out .exit)) r ⌝ }
-    ensures { λ r. ⌜ r ≤ at + 21 ⌝ }
+    ensures { λ r. ⌜ r ≤ at + numberRoom ⌝ }
 {
     let next = put_decimal(out, at, x);
     put(out, next, after)
@@ -59,7 +65,7 @@ fn put_number(out: &mut [u8], at: usize, x: usize, after: u8) -> usize
 
 // The one line of a refusal.
 pub(crate) fn put_refusal(out: &mut [u8], number: u32, value: usize) -> usize
-    requires { ⌜ 50 ≤ length (now out) ⌝ }
+    requires { ⌜ refusalRoom ≤ length (now out) ⌝ }
     ensures { λ r. ⌜ Appends (now (out .entry)) 0 (refusedLine number value) (now (out .exit)) r ⌝ }
 {
     let a = put_text(out, 0, b"refused ");
@@ -69,9 +75,9 @@ pub(crate) fn put_refusal(out: &mut [u8], number: u32, value: usize) -> usize
 
 // n, k, dmin and t.
 fn put_code(out: &mut [u8], n: u32, k: u32, d: u32) -> usize
-    requires { ⌜ (84 ≤ length (now out)) × (1 ≤ d) ⌝ }
+    requires { ⌜ (codeRoom ≤ length (now out)) × (1 ≤ d) ⌝ }
     ensures { λ r. ⌜ Appends (now (out .entry)) 0 (codeLine n k d) (now (out .exit)) r ⌝ }
-    ensures { λ r. ⌜ r ≤ 84 ⌝ }
+    ensures { λ r. ⌜ r ≤ codeRoom ⌝ }
 {
     let a = put_number(out, 0, n as usize, SPACE);
     let b = put_number(out, a, k as usize, SPACE);
@@ -94,20 +100,20 @@ fn put_digits(out: &mut [u8], at: usize, n: u32, w: u32) -> usize
 
 // The count, or "far".
 fn put_ending(out: &mut [u8], at: usize, count: u8) -> usize
-    requires { ⌜ at + 3 ≤ length (now out) ⌝ }
+    requires { ⌜ at + endingRoom ≤ length (now out) ⌝ }
     ensures { λ r. ⌜ Appends (now (out .entry)) at (slotEnding count) (now (out .exit)) r ⌝ }
-    ensures { λ r. ⌜ r ≤ at + 3 ⌝ }
+    ensures { λ r. ⌜ r ≤ at + endingRoom ⌝ }
 {
-    if count == 255 {
+    if count == FAR {
         return put_text(out, at, b"far");
     }
     put_decimal(out, at, count as usize)
 }
 
 fn put_line(out: &mut [u8], at: usize, n: u32, c: u32, count: u8) -> usize
-    requires { ⌜ (n ≤ width) × (at + 37 ≤ length (now out)) ⌝ }
+    requires { ⌜ (n ≤ width) × (at + lineRoom ≤ length (now out)) ⌝ }
     ensures { λ r. ⌜ Appends (now (out .entry)) at (slotLine n c count) (now (out .exit)) r ⌝ }
-    ensures { λ r. ⌜ r ≤ at + 37 ⌝ }
+    ensures { λ r. ⌜ r ≤ at + lineRoom ⌝ }
 {
     let a = put_digits(out, at, n, c);
     let b = put(out, a, SPACE);
@@ -117,7 +123,7 @@ fn put_line(out: &mut [u8], at: usize, n: u32, c: u32, count: u8) -> usize
 
 // A line for each slot of the lists.
 fn put_lines(out: &mut [u8], at: usize, n: u32, codewords: &[u32], counts: &[u8]) -> usize
-    requires { ⌜ (n ≤ width) × (length (now counts) ≡ length (now codewords)) × (at + 37 * length (now codewords) ≤ length (now out)) ⌝ }
+    requires { ⌜ (n ≤ width) × (length (now counts) ≡ length (now codewords)) × (at + lineRoom * length (now codewords) ≤ length (now out)) ⌝ }
     ensures { λ r. ⌜ Appends (now (out .entry)) at (slotLines n (now (codewords .entry)) (now (counts .entry))) (now (out .exit)) r ⌝ }
 {
     let mut next = at;
@@ -138,7 +144,7 @@ pub(crate) fn put_batch(
     codewords: &[u32],
     counts: &[u8],
 ) -> usize
-    requires { ⌜ (n ≤ width) × (1 ≤ d) × (length (now counts) ≡ length (now codewords)) × (84 + 37 * length (now codewords) ≤ length (now out)) ⌝ }
+    requires { ⌜ (n ≤ width) × (1 ≤ d) × (length (now counts) ≡ length (now codewords)) × (codeRoom + lineRoom * length (now codewords) ≤ length (now out)) ⌝ }
     ensures { λ r. ⌜ Appends (now (out .entry)) 0 (codeLine n k d ++ slotLines n (now (codewords .entry)) (now (counts .entry))) (now (out .exit)) r ⌝ }
 {
     let a = put_code(out, n, k, d);

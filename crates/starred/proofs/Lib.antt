@@ -1,1 +1,1 @@
-pub mod Starred
+pub mod Starred  -- the value of the table

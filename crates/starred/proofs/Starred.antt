@@ -51,7 +51,9 @@ is-codeword : Codeword golayRows codeword
 unfolding codeword
 is-codeword = (3, rw (golay-accepted .count) (lit< tt), sym golay-encoded)
 
-rules : RadiusRules ℕ (Codeword golayRows) distance 8 3 received (wordIn (golayOutcome received) received) (countIn (golayOutcome received)) (countIn (golayOutcome received) ≡ 255)
+rules :
+    RadiusRules ℕ (Codeword golayRows) distance 8 3 received (wordIn (golayOutcome received) received) (countIn (golayOutcome received))
+    (countIn (golayOutcome received) ≡ 255)
 unfolding received
 rules = golay-rules received (lit< tt)
 

@@ -1,2 +1,2 @@
-pub mod Matrices
-pub mod Starred
+pub mod Matrices  -- the matrices of the examples
+pub mod Starred  -- the table

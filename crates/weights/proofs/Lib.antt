@@ -1,2 +1,2 @@
-pub mod WalkLaws
-pub mod DescribeLaws
+pub mod WalkLaws  -- the walk, block by block
+pub mod DescribeLaws  -- what a finished walk tells

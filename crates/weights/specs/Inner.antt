@@ -1,1 +1,1 @@
-pub mod Walked
+pub mod Walked  -- what a walk has found

@@ -1,2 +1,2 @@
-pub mod Description
-pub mod Inner
+pub mod Description  -- what weights_of and Describe answer
+pub mod Inner  -- for private functions

@@ -53,7 +53,8 @@ ends : (c : tie.After-slice-known4) (b : Bool) → c .before .before .fill-leade
 ends c b e =
     let t = passed c in
     let a = begun c .args in
-    sym (at-work (a .n) (a .k) (a .rows .now) (a .reading) (a .words .now) _ _ _ (sym (t .before .before .known-past .ensures .answer) ∙ t .enum-told .given .1))
+    sym (at-work (a .n) (a .k) (a .rows .now) (a .reading) (a .words .now) _ _ _
+    (sym (t .before .before .known-past .ensures .answer) ∙ t .enum-told .given .1))
     ∙ work-told (a .n) (a .k) (a .rows .now) (accepted t) (c .before .before .fill-leaders .ensures) b e
 
 returns : tie.Need-returns
@@ -107,6 +108,12 @@ work-is c =
     c .before .before .before .fill-leaders .ensures .of-matrix (a .k) (a .rows .now) (accepted t) refl
     (rows-are c) (not-false _ (c .if1 .left))
 
+abbrev ready : tie.After-decode-words-arg3 → tie.Else1
+ready c = c .before .before .before .before
+
+abbrev written : tie.After-slice-known6 → tie.After-decode-words
+written c = c .before .before .before .before
+
 slice-reshare-prefix-decode-words : tie.Need-slice-reshare-prefix-decode-words
 slice-reshare-prefix-decode-words c =
     let e = c .before in
@@ -121,14 +128,14 @@ slice-aggregate-decode-words c =
 
 decode-words-requires : tie.Need-decode-words-requires
 decode-words-requires c κs =
-    let e = c .before .before .before .before in
+    let e = ready c in
     let s = begun (e .before) in
     rw (size-is e) (words-fit (batch s) (lent s) (done e), syndromes-fit (batch s) (lent s) (done e) _ _ (rows-are e) (work-is e))
 
 returns-3 : tie.Need-returns-3
 returns-3 c =
-    let d = c .before .before .before .before in
-    let e = d .before .before .before .before .before in
+    let d = written c in
+    let e = ready (d .before) in
     let t = passed (e .before) in
     let s = begun (e .before) in (
       decode-ends (batch s) (lent s) (done e) _ _ (rows-are e) (work-is e) _ _ (rw (size-is e) at (d .decode-words .ensures .0))

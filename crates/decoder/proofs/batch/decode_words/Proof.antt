@@ -23,8 +23,11 @@ abbrev μ-loop : tie.MeasureT-loop
 abbrev start : tie.At-loop Inv-loop μ-loop → tie.Start Inv-loop μ-loop
 start c = c .before .before .before .before .before
 
+abbrev in-loop : tie.After-outcome-of Inv-loop μ-loop → tie.In-loop Inv-loop μ-loop
+in-loop c = c .before .before .before .before
+
 abbrev at-loop : tie.After-outcome-of Inv-loop μ-loop → tie.At-loop Inv-loop μ-loop
-at-loop c = c .before .before .before .before .before
+at-loop c = in-loop c .before
 
 -- the outcome is that of the word, with the leader of its syndrome
 ended : (c : tie.After-outcome-of Inv-loop μ-loop)
@@ -52,7 +55,7 @@ loop-again c =
     let s = start l in
     let a = s .args in
     let w = getD (a .words .now) (l .loop .i) 0 in
-    let h = o .before .before .before .before .loop-test .taken in (
+    let h = in-loop o .loop-test .taken in (
       omega arith,
       over-map-step (wordBy (a .reading) (a .leaders .now) (a .checks .now)) (a .words .now) (l .loop .inv .1) _ h (omega (arith, s .pre))
           (c .before .word-in .ensures ∙ ap (λ (x : Outcome). wordIn x w) (ended o)),

@@ -26,6 +26,9 @@ start c = c .before .before .before .before
 abbrev code : tie.After-list-cause → tie.After-code-of
 code c = c .before .before .before
 
+abbrev read-at : tie.After-row-sums-arg → tie.Else1
+read-at c = c .before .before .before
+
 abbrev passed-at : tie.After-first-other → tie.After-enum-told3
 passed-at c = c .before .before .before
 
@@ -81,14 +84,14 @@ returns-3 c =
 
 row-sums-requires : tie.Need-row-sums-requires
 row-sums-requires c κs =
-    let t = passed-at (c .before .before .before .before) in
+    let t = passed-at (read-at c .before) in
     let a = start (code (t .before .before)) .args in
     list-in (a .words .now) (a .n) (length (a .out .now)) (listed t) .room
 
 returns-4 : tie.Need-returns-4
 returns-4 c =
     let q = c .before .before in
-    let e = q .before .before .before .before in
+    let e = read-at (q .before) in
     let t = passed-at (e .before) in
     let l = t .before .before in
     let C = code l .code-of in
@@ -101,7 +104,8 @@ returns-4 c =
     (written (messageOf rows) words (a .out .now) _
     (q .row-sums .ensures
     ∙ ap (λ (s : List ℕ). s ++ drop (length words) (a .out .now))
-    (messages-are (a .n) (a .k) rows (accepted-in (a .n) (a .k) rows (passed l)) (C .result .messages) (C .ensures .messages .traced (l .before .enum-told .given .1))
+    (messages-are (a .n) (a .k) rows (accepted-in (a .n) (a .k) rows (passed l)) (C .result .messages)
+    (C .ensures .messages .traced (l .before .enum-told .given .1))
     words (sym (found (e .before)) ∙ e .if1 .left))))
 
 pub message-spec : {M : Type 1} → statement M

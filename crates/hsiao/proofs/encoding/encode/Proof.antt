@@ -4,7 +4,7 @@ use Prim.Native.Nat.{_^_, _<_}
 use lib.ListN.{length}
 use Rattle.coding.proofs.ColumnLaws.{check-is, encoded-codeword}
 use Rattle.hsiao.specs.Table.{columns}
-use Rattle.hsiao.proofs.HsiaoTableLaws.{columns-odd, columns-length}
+use Rattle.hsiao.proofs.HsiaoTableLaws.{columns-odd, columns-length, table-is}
 use borrow.Author.Needs.{needs}
 use Rattle.hsiao.proofs.encoding.encode.Statement.{statement}
 use Rattle.hsiao.proofs.encoding.encode.Tie as tie
@@ -16,6 +16,7 @@ returns c =
     let e = c .column-sum .ensures in
     record {
       sum = e;
+      table = table-is;
       codeword = rw e (encoded-codeword 8 columns (columns-odd .inside) x h);
       only = λ b B. check-is 8 columns (record { check = b; info = x }) B ∙ sym e;
     }

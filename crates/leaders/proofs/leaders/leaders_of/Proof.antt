@@ -15,8 +15,11 @@ abbrev start : tie.After-parity-checks → tie.Start
 start c = c .before .before .before
 
 -- the matrix is accepted
+abbrev filled : tie.After-slice-known2 → tie.After-fill-leaders
+filled c = c .before .before
+
 abbrev passed : tie.After-slice-known2 → tie.After-enum-told
-passed c = c .before .before .before .before .before .before
+passed c = filled c .before .before .before .before
 
 accepted : (t : tie.After-enum-told)
     → let a = start (t .before .before) .args in
@@ -38,7 +41,7 @@ returns-2 : tie.Need-returns-2
 returns-2 c =
     let t = passed (c .before .before) in
     let a = start (t .before .before) .args in
-    let f = c .before .before .before .before .fill-leaders in
+    let f = filled (c .before .before) .fill-leaders in
     let d = not-true _ (c .before .if1 .taken) in
     leaders-refused (a .n) (a .k) (a .rows .now) (a .list .now) _ (list-kept (f .ensures) d) _ _ (c .refused2 .ensures .0) (c .refused2 .ensures .1)
     (work-refuses (a .n) (a .k) (a .rows .now) (length (a .list .now)) (accepted t) (work-told (a .n) (a .k) (a .rows .now) (accepted t) (f .ensures) _ d))
@@ -49,7 +52,7 @@ returns-3 c =
     let p = t .before .before in
     let a = start p .args in
     let A = accepted t in
-    let f = c .before .before .before .fill-leaders in
+    let f = filled (c .before) .fill-leaders in
     let d = not-false _ (c .if1 .left) in
     leaders-written (a .n) (a .k) (a .rows .now) A (a .list .now) _ refl (work-told (a .n) (a .k) (a .rows .now) A (f .ensures) _ d)
     (checks-done (p .parity-checks .ensures) (t .enum-told .given .1)) _

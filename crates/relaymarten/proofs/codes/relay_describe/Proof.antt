@@ -4,9 +4,12 @@ use Rattle.relaymarten.proofs.ToldLaws.{told}
 use Rattle.relaymarten.proofs.codes.relay_describe.Statement.{statement}
 use Rattle.relaymarten.proofs.codes.relay_describe.Tie as tie
 
+abbrev called : tie.After-tell → tie.After-describe
+called c = c .before .before .before .before .before
+
 returns : tie.Need-returns
 returns c =
-    let C = c .before .before .before .before .before .describe .ensures in
+    let C = called c .describe .ensures in
     told _ (C .reduced .answer) C (c .tell .ensures .0) (c .tell .ensures .1)
 
 pub relay-describe-spec : {M : Type 1} → statement M

@@ -4,9 +4,12 @@ use Rattle.relaymarten.proofs.ToldLaws.{told}
 use Rattle.relaymarten.proofs.codes.relay_encode.Statement.{statement}
 use Rattle.relaymarten.proofs.codes.relay_encode.Tie as tie
 
+abbrev called : tie.After-tell → tie.After-encode
+called c = c .before .before .before .before
+
 returns : tie.Need-returns
 returns c =
-    let C = c .before .before .before .before .encode .ensures in
+    let C = called c .encode .ensures in
     told _ (C .answer) C (c .tell .ensures .0) (c .tell .ensures .1)
 
 pub relay-encode-spec : {M : Type 1} → statement M

@@ -4,9 +4,12 @@ use Rattle.relaymarten.proofs.ToldLaws.{told}
 use Rattle.relaymarten.proofs.codes.relay_message.Statement.{statement}
 use Rattle.relaymarten.proofs.codes.relay_message.Tie as tie
 
+abbrev called : tie.After-tell → tie.After-message
+called c = c .before .before .before .before
+
 returns : tie.Need-returns
 returns c =
-    let C = c .before .before .before .before .message .ensures in
+    let C = called c .message .ensures in
     told _ (C .answer) C (c .tell .ensures .0) (c .tell .ensures .1)
 
 pub relay-message-spec : {M : Type 1} → statement M
