@@ -76,6 +76,7 @@ fn outcome(received: u32) -> Outcome
     outcome_of(Reading::Within(RADIUS), received, error_pattern(s))
 }
 
+// The codeword within three places of a word of 24, or far; a one outside them is refused.
 pub fn decode(received: u32) -> Correction
     ensures { λ r. ⌜ Decoded received r ⌝ }
 {

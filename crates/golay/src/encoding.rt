@@ -11,6 +11,7 @@ pub struct Encoding {
     pub word: u32,
 }
 
+// The codeword of a message of 12 places; a one outside them is refused.
 pub fn encode(message: u32) -> Encoding
     ensures { λ r. ⌜ Encoded message r ⌝ }
 {

@@ -11,6 +11,7 @@ pub struct ReadBack {
     pub message: u32,
 }
 
+// The message of a codeword; any other word is refused.
 pub fn message(word: u32) -> ReadBack
     ensures { λ r. ⌜ MessageRead word r ⌝ }
 {

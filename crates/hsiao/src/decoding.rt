@@ -11,6 +11,7 @@ pub struct Decoding {
     pub count: u8,
 }
 
+// Syndrome 0 is clean, a column mends its place, any other is far.
 pub fn decode(w: Word) -> Decoding
     ensures { λ r. ⌜ Decoded w r ⌝ }
 {

@@ -11,6 +11,7 @@ pub struct ReadBack {
     pub data: u64,
 }
 
+// The data of a codeword; any other word is refused.
 pub fn message(w: Word) -> ReadBack
     ensures { λ r. ⌜ MessageRead w r ⌝ }
 {

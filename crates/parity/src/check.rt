@@ -109,6 +109,7 @@ pub struct Code {
     pub messages: [u32; WIDTH],
 }
 
+// Parts 1 and 2 from one elimination.
 pub fn code_of(n: u32, k: u32, rows: &[u32]) -> Code
     ensures { λ r. ⌜ CodeOf n k (now (rows .entry)) r ⌝ }
 {

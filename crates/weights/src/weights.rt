@@ -14,6 +14,7 @@ pub struct Weights {
     pub lightest: u32,
 }
 
+// Part 3 of an accepted matrix, from one walk over the codewords.
 pub fn weights_of(n: u32, k: u32, rows: &[u32]) -> Weights
     ensures { λ r. ⌜ WeightsOf n k (now (rows .entry)) r ⌝ }
 {
