@@ -74,7 +74,7 @@ enum {
 /* What the code of a matrix is. Causes 1 to 4.
  * Written: the k reduced rows, the n - k parity-check rows and how many codewords there are of each weight 0 to n, each list 0
  * after these; the minimum distance; and a codeword of that weight. On a refusal all of them become 0.
- * Stack: about 4 kB. */
+ * Stack: about 5 kB. */
 uint32_t relay_describe(uint32_t n, uint32_t k, const uint32_t *rows, size_t rows_len,
                         uint32_t reduced[RELAY_MAX_ROWS], uint32_t checks[RELAY_MAX_CHECKS], uint32_t weight_counts[RELAY_WEIGHTS],
                         uint32_t *dmin, uint32_t *lightest, size_t *value);
@@ -103,7 +103,7 @@ uint32_t relay_message(uint32_t n, uint32_t k, const uint32_t *rows, size_t rows
  * Time: most of it goes into the leaders, which are built in each call, and depends on the matrix; more words cost little. 512
  * words took 3 us with a (7,4) code, 45 to 110 us with random (28,16) rows, and 0.15 s with (28,16) rows that leave twelve places
  * 0 in every codeword, the slowest found (AMD EPYC, 2.6 GHz).
- * Stack: about 5 kB. */
+ * Stack: about 6 kB. */
 uint32_t relay_decode(uint32_t n, uint32_t k, const uint32_t *rows, size_t rows_len,
                       uint32_t within, uint32_t radius,
                       const uint32_t *words, size_t words_len,
@@ -136,7 +136,7 @@ uint32_t relay_hsiao_message(uint8_t check, uint64_t data, uint64_t *message, si
 /* The run over a code sheet (docs/SHEET.md): writes the lines that the program decode_sheet prints, and returns how many bytes they
  * are. A refusal, causes 1 to 7, 12 and 13, is the one line "refused NUMBER VALUE"; 12 and 13 are tested first. `out` has
  * RELAY_MAX_OUTPUT bytes or more; a shorter list is left as it was, and 0 returned. Slots past the output keep their values.
- * Time: as relay_decode. Stack: about 26 kB. */
+ * Time: as relay_decode. Stack: about 27 kB. */
 size_t relay_run(const uint8_t *sheet, size_t sheet_len, uint8_t *out, size_t out_len);
 
 #ifdef __cplusplus

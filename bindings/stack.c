@@ -107,17 +107,17 @@ static const struct {
     void (*call)(void);
 } calls[] = {
     {"relay_version", 1, version},
-    {"relay_describe", 4, describe},
+    {"relay_describe", 5, describe},
     {"relay_encode", 2, encode},
     {"relay_message", 3, message},
-    {"relay_decode", 5, decode},
+    {"relay_decode", 6, decode},
     {"relay_golay_encode", 1, golay_encode},
     {"relay_golay_decode", 1, golay_decode},
     {"relay_golay_message", 1, golay_message},
     {"relay_hsiao_encode", 1, hsiao_encode},
     {"relay_hsiao_decode", 1, hsiao_decode},
     {"relay_hsiao_message", 1, hsiao_message},
-    {"relay_run", 26, run},
+    {"relay_run", 27, run},
 };
 
 static _Alignas(4096) uint8_t stack[STACK];
