@@ -19,26 +19,26 @@ use Rattle.coding.proofs.EliminateLaws.{table-shape, row-ends, row-place, row-a
 use Rattle.coding.proofs.TraceLaws.{Trace, trace-step, traced-at, traced-start, traced-put, wipes-self}
 
 -- the first i rows are reduced, with a message beside each, and none of them is a sum of earlier ones
-pub record Reduced (rows : List ℕ) (i : ℕ) (table messages : List ℕ) : Type 0 where
+pub record ReducedUpTo (rows : List ℕ) (i : ℕ) (table messages : List ℕ) : Type 0 where
   pub fits : Inside 32 rows
   pub within : i ≤ length rows
   pub table-is : table ≡ reduce 32 (take i rows)
   pub none : (j : ℕ) → j < i → Depends rows j → ⊥
   pub traced : Traced rows messages table
 
-pub reduced-start : (rows : List ℕ) → Inside 32 rows → Reduced rows 0 (zeros 32) (zeros 32)
+pub reduced-start : (rows : List ℕ) → Inside 32 rows → ReducedUpTo rows 0 (zeros 32) (zeros 32)
 reduced-start rows f = record { fits = f; within = omega arith; table-is = refl; none = λ j h. absurd (omega arith); traced = traced-start rows 32 }
 
 -- row i is cleared at the pivots before p; x is what is left of it, and has the message m
 pub record Clearing (rows table messages : List ℕ) (i p x m : ℕ) : Type 0 where
-  pub before : Reduced rows i table messages
+  pub before : ReducedUpTo rows i table messages
   pub more : i < length rows
   pub within : p ≤ 32
   pub cleared : Cleared table (getD rows i 0) p x
   pub trace : Trace rows m x
 
 module _ {rows table messages : List ℕ} {i : ℕ} where
-  pub clear-start : Reduced rows i table messages → i < length rows → Clearing rows table messages i 0 (getD rows i 0) (2 ^ i)
+  pub clear-start : ReducedUpTo rows i table messages → i < length rows → Clearing rows table messages i 0 (getD rows i 0) (2 ^ i)
   clear-start R h = record {
     before = R;
     more = h;
@@ -82,7 +82,7 @@ module _ {rows table messages : List ℕ} {i : ℕ} where
       clear-place = row-place 32 rows (C .before .fits) i (C .more) table (C .before .table-is) x left ne
 
       pub clear-put : {T M : List ℕ} → T ≡ set (wipes (trailingZeros 32 x) table table x) (trailingZeros 32 x) x
-          → M ≡ set (wipes (trailingZeros 32 x) table messages m) (trailingZeros 32 x) m → Reduced rows (i + 1) T M
+          → M ≡ set (wipes (trailingZeros 32 x) table messages m) (trailingZeros 32 x) m → ReducedUpTo rows (i + 1) T M
       clear-put {T} d e =
           let q = trailingZeros 32 x in
           let R = C .before in

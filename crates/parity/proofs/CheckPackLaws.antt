@@ -21,22 +21,22 @@ abbrev pub checksFrom : List ℕ → ℕ → ℕ → List ℕ
 checksFrom table n q = map (check table) (freesFrom q (drop q (take n table)))
 
 -- those of the places below q, j of them, stand in front of zeros
-pub record Listed (table : List ℕ) (n q : ℕ) (checks : List ℕ) (j : ℕ) : Type 0 where
+pub record PackedChecks (table : List ℕ) (n q : ℕ) (checks : List ℕ) (j : ℕ) : Type 0 where
   pub wide : (length table ≡ 32) × (n ≤ 32)
   pub few : length (checksFrom table n 0) ≤ maxChecks
   pub within : q ≤ n
   pub packed : Packed maxChecks checks j (checksFrom table n q) (checksFrom table n 0)
 
-pub list-start : {table : List ℕ} {n : ℕ} → length table ≡ 32 → n ≤ 32 → length (freesFrom 0 (take n table)) ≤ maxChecks
-    → Listed table n 0 (zeros maxChecks) 0
-list-start {table} {n} e h f = record {
+pub pack-start : {table : List ℕ} {n : ℕ} → length table ≡ 32 → n ≤ 32 → length (freesFrom 0 (take n table)) ≤ maxChecks
+    → PackedChecks table n 0 (zeros maxChecks) 0
+pack-start {table} {n} e h f = record {
   wide = (e, h);
   few = rw (length-map (freesFrom 0 (take n table)) (check table)) f;
   within = omega arith;
   packed = packed-start maxChecks (checksFrom table n 0);
 }
 
-module _ {table : List ℕ} {n q : ℕ} {checks : List ℕ} {j : ℕ} (L : Listed table n q checks j) where
+module _ {table : List ℕ} {n q : ℕ} {checks : List ℕ} {j : ℕ} (L : PackedChecks table n q checks j) where
   size : length (take n table) ≡ n
   size = length-take-le n table (omega (arith, L .wide))
 
@@ -48,11 +48,11 @@ module _ {table : List ℕ} {n q : ℕ} {checks : List ℕ} {j : ℕ} (L : Liste
           = ap (map (check table)) (frees-free (take n table) q (rw size h) (getD-take n table q 0 h ∙ e)) in
           rw free at (L .packed)
 
-      pub list-room : j < maxChecks
-      list-room = packed-room maxChecks checks j _ _ (checksFrom table n 0) next (L .few)
+      pub pack-room : j < maxChecks
+      pack-room = packed-room maxChecks checks j _ _ (checksFrom table n 0) next (L .few)
 
-      pub list-push : {v : ℕ} → v ≡ column table q → Listed table n (q + 1) (set checks j ((1 * 2 ^ q) % 2 ^ 32 ⊕ v)) (j + 1)
-      list-push {v} k =
+      pub pack-push : {v : ℕ} → v ≡ column table q → PackedChecks table n (q + 1) (set checks j ((1 * 2 ^ q) % 2 ^ 32 ⊕ v)) (j + 1)
+      pack-push {v} k =
           let row : (1 * 2 ^ q) % 2 ^ 32 ⊕ v ≡ check table q = ap₂ _⊕_ (shl-one q 32 (omega (arith, L .wide))) k in
           record {
             wide = L .wide;
@@ -61,14 +61,14 @@ module _ {table : List ℕ} {n q : ℕ} {checks : List ℕ} {j : ℕ} (L : Liste
             packed = rw row (packed-push maxChecks checks j (check table q) _ (checksFrom table n 0) next (L .few));
           }
 
-    pub list-skip : getD table q 0 ≢ 0 → Listed table n (q + 1) checks j
-    list-skip ne =
+    pub pack-skip : getD table q 0 ≢ 0 → PackedChecks table n (q + 1) checks j
+    pack-skip ne =
         let e : checksFrom table n q ≡ checksFrom table n (q + 1)
         = ap (map (check table)) (frees-pivot (take n table) q (rw size h) (λ z. ne (sym (getD-take n table q 0 h) ∙ z))) in
         record { wide = L .wide; few = L .few; within = omega arith; packed = rw e at (L .packed) }
 
-  pub list-end : n ≤ q → checks ≡ padded maxChecks (checksFrom table n 0)
-  list-end h =
+  pub pack-end : n ≤ q → checks ≡ padded maxChecks (checksFrom table n 0)
+  pack-end h =
       let e : checksFrom table n q ≡ []
       = ap (λ (l : List ℕ). map (check table) (freesFrom q l)) (drop-of-length-le (take n table) {i = q} (rw size h)) in
       packed-end maxChecks checks j (checksFrom table n 0) (rw e at (L .packed)) (omega (arith, L .packed .count, L .few))

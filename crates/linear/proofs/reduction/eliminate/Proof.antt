@@ -6,7 +6,7 @@ use lib.Count.{trailing-le}
 use Rattle.coding.proofs.MachineLaws.{shl-one}
 use borrow.Author.Needs.{needs}
 use native.Mathlib.Omega.{arith}
-use Rattle.linear.proofs.RowClearLaws.{Reduced, Clearing, reduced-start, sizes, clear-start, clear-step, clear-none, clear-place, clear-put}
+use Rattle.linear.proofs.RowClearLaws.{ReducedUpTo, Clearing, reduced-start, sizes, clear-start, clear-step, clear-none, clear-place, clear-put}
 use Rattle.linear.proofs.reduction.eliminate.Statement.{statement}
 use Rattle.linear.proofs.reduction.eliminate.Tie as tie
 
@@ -17,7 +17,7 @@ abbrev μ-loop : tie.MeasureT-loop
 μ-loop rows table messages i x₀ m₀ p₀ x m p = 32 - p
 
 abbrev Inv-rows : tie.InvT-rows
-Inv-rows rows table₀ messages₀ i₀ table messages i = Reduced rows i table messages
+Inv-rows rows table₀ messages₀ i₀ table messages i = ReducedUpTo rows i table messages
 
 abbrev μ-rows : tie.MeasureT-rows
 μ-rows rows table₀ messages₀ i₀ table messages i = length rows - i
