@@ -15,8 +15,7 @@ use Rattle.coding.specs.Word.{_⊕_, bit, weight, distance}
 use Rattle.coding.specs.Matrix.{sel, encode, Inside}
 use Rattle.coding.specs.Columns.{SplitWord, splitDistance, units, splitSyndrome, SplitPlaces, SplitCodeword, OddColumns, SplitMinimumDistance}
 use Rattle.coding.proofs.WordLaws.{xor-eq, xor-four, xor-assoc, xor-cancel-r, half-lt, bit-xor, bit-pow}
-use Rattle.coding.proofs.WeightLaws.{weight-zero, weight-none, weight-one, weight-xor-odd, weight-pow, weight-less, distance-sym}
-use Rattle.coding.proofs.WeightLaws.{distance-self, distance-tri}
+use Rattle.coding.proofs.WeightLaws.{weight-zero, weight-none, weight-one, weight-xor-odd, weight-pow, weight-less, distance-sym, distance-self, distance-tri}
 use Rattle.coding.proofs.MatrixLaws.{encode-xor, encode-zero, encode-lt, row-message}
 use Rattle.coding.proofs.ReduceLaws.{IsLead, is-lead}
 use Rattle.coding.proofs.LinearLaws.{identity-rows}

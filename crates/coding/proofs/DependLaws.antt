@@ -11,13 +11,18 @@ use lib.ListN.{length, getD, take, length-take}
 use lib.Seq.{length-take-le, getD-take, take-take}
 use lib.Pow.{pow-lt}
 use lib.Bits.{xor-lt, xor-self, xor-shifted}
+use Rattle.coding.specs.Lists.{first}
 use Rattle.coding.specs.Word.{_⊕_}
-use Rattle.coding.specs.Matrix.{encode, Inside, Independent, Depends, isCodeword, firstDependent}
+use Rattle.coding.specs.Matrix.{encode, Inside, Independent, Depends, isCodeword, dependsAt}
 use Rattle.coding.specs.Reduce.{rest, reduce}
 use Rattle.coding.proofs.WordLaws.{xor-eq}
 use Rattle.coding.proofs.MatrixLaws.{encode-xor, encode-take, row-message}
 use Rattle.coding.proofs.ReduceLaws.{codeword-kept, kept-codeword}
 use Rattle.coding.proofs.SearchLaws.{true-false, first-le, first-hit, first-before, first-is, codeword-test, codeword-fails}
+
+-- the first row that is a sum of earlier rows, or the number of rows where none is
+abbrev pub firstDependent : List ℕ → ℕ
+firstDependent rows = first (dependsAt rows) (length rows)
 
 -- a message below 2 ^ suc i has a one at place i, or is below 2 ^ i
 top : (i u : ℕ) → u < 2 ^ suc i → (u < 2 ^ i) ⊎ ((v : ℕ) × (v < 2 ^ i) × (u ≡ 2 ^ i ⊕ v))

@@ -18,8 +18,7 @@ use Rattle.coding.specs.Matrix.{sel, encode, Codeword, Inside}
 use Rattle.coding.specs.Reduced.{Leads}
 use Rattle.coding.specs.Reduce.{rest, wipe, put, addTo, reduceFrom, reduce}
 use Rattle.coding.proofs.WordLaws.{xor-eq, half-lt, xor-cancel-r, bit-lt, bit-half, bit-zeroth, bit-of-zero, bit-xor}
-use Rattle.coding.proofs.MatrixLaws.{sel-lt, encode-xor, encode-zero, encode-kept, encode-lt, codeword-zero, codeword-xor, sel-in}
-use Rattle.coding.proofs.MatrixLaws.{encode-in, row-codeword}
+use Rattle.coding.proofs.MatrixLaws.{sel-lt, encode-xor, encode-zero, encode-kept, encode-lt, codeword-zero, codeword-xor, sel-in, encode-in, row-codeword}
 use Rattle.coding.proofs.CheckLaws.{bit-sel}
 use Rattle.coding.proofs.PivotLaws.{ByPlace, rest-pivot, row-kept, encode-twice}
 

@@ -51,7 +51,3 @@ Depends rows i = Codeword (take i rows) (getD rows i 0)
 -- the same as a test
 abbrev pub dependsAt : List ℕ → ℕ → Bool
 dependsAt rows i = isCodeword (take i rows) (getD rows i 0)
-
--- the first row that is a sum of earlier rows, or the number of rows where none is
-abbrev pub firstDependent : List ℕ → ℕ
-firstDependent rows = first (dependsAt rows) (length rows)

@@ -7,7 +7,7 @@ use native.Mathlib.Omega.{arith}
 use lib.Dec.{eqb, leb}
 use lib.ListN.{length}
 use borrow.Author.Tests.{leb-true, le-leb, lt-leb}
-use Rattle.coding.specs.Matrix.{firstDependent}
+use Rattle.coding.proofs.DependLaws.{firstDependent}
 use Rattle.coding.specs.Weight.{dmin}
 use Rattle.words.specs.Limits.{maxWords, inRange}
 use Rattle.words.specs.Refusal.{numberOf, unless, andThen, ifDone}
@@ -16,8 +16,7 @@ use Rattle.words.specs.Accepted.{matrixAnswer, Accepted}
 use Rattle.words.proofs.AcceptedLaws.{accepted-in}
 use Rattle.words.specs.Lists.{listAnswer}
 use Rattle.words.specs.declared.answer.Refusal.{Refusal}
-use Rattle.words.specs.declared.answer.Refusal.the-variants.{OutOfRange, RowCount, RowOutside, Dependent, RadiusTooLarge, TooManyWords}
-use Rattle.words.specs.declared.answer.Refusal.the-variants.{WordOutside, ShortOutput, ShortWork}
+use Rattle.words.specs.declared.answer.Refusal.the-variants.{OutOfRange, RowCount, RowOutside, Dependent, RadiusTooLarge, TooManyWords, WordOutside, ShortOutput, ShortWork}
 use Rattle.words.specs.declared.answer.Answer.{Answer}
 use Rattle.words.specs.declared.answer.Answer.the-variants.{Done, Refused}
 use Rattle.words.proofs.AnswerLaws.{unless-done, andThen-done}

@@ -15,8 +15,7 @@ use Rattle.coding.specs.Columns.{SplitWord, splitDistance, units, splitSyndrome
 use Rattle.coding.proofs.SearchLaws.{first-hit, first-upto}
 use Rattle.coding.proofs.ListLaws.{length-tabulate, getD-tabulate}
 use Rattle.coding.proofs.RadiusLaws.{radius-found}
-use Rattle.coding.proofs.ColumnLaws.{split-discrete, split-distance-sym, split-distance-tri, split-distance-self, four-apart}
-use Rattle.coding.proofs.ColumnLaws.{IsColumn, check-changed-distance, info-changed-distance, mend-check, mend-info, near-syndrome}
+use Rattle.coding.proofs.ColumnLaws.{split-discrete, split-distance-sym, split-distance-tri, split-distance-self, four-apart, IsColumn, check-changed-distance, info-changed-distance, mend-check, mend-info, near-syndrome}
 use Rattle.hsiao.specs.Table.{split}
 use Rattle.hsiao.specs.Outcome.{withCheck, withData, outcomeAt, outcomeBy, wordIn, countIn}
 use Rattle.hsiao.specs.declared.word.Word.{Word}

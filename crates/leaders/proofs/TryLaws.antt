@@ -21,8 +21,7 @@ use Rattle.coding.proofs.WeightLaws.{weight-zero, weight-pow}
 use Rattle.coding.proofs.MatrixLaws.{encode-xor, encode-zero, row-message}
 use Rattle.coding.proofs.LinearLaws.{syndrome-columns}
 use Rattle.coding.proofs.ListLaws.{length-tabulate, getD-tabulate}
-use Rattle.coding.proofs.BuildLaws.{fill-blank, fill-held, fills-length, fills-step, fills-done, fills-snoc, fills-append}
-use Rattle.coding.proofs.BuildLaws.{words-few, words-unit, blank-set, blank-all}
+use Rattle.coding.proofs.BuildLaws.{fill-blank, fill-held, fills-length, fills-step, fills-done, fills-snoc, fills-append, words-few, words-unit, blank-set, blank-all}
 use Rattle.leaders.specs.Inner.Built.{columnsOf, Trying, Tried}
 
 -- ---- the columns

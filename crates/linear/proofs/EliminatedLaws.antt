@@ -8,9 +8,8 @@ use native.Mathlib.Omega.{arith}
 use lib.ListN.{length, take}
 use lib.Seq.{take-length}
 use Rattle.coding.specs.Lists.{padded}
-use Rattle.coding.specs.Matrix.{firstDependent}
+use Rattle.coding.proofs.DependLaws.{firstDependent, dependent-is}
 use Rattle.coding.specs.Reduce.{reduce, rowsOf, reducedRows}
-use Rattle.coding.proofs.DependLaws.{dependent-is}
 use Rattle.words.specs.Limits.{maxRows}
 use Rattle.words.specs.Shape.{shapeAnswer}
 use Rattle.words.specs.Accepted.{matrixAnswer, Accepted}

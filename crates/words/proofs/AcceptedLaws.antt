@@ -8,9 +8,9 @@ use native.Mathlib.Omega.{arith}
 use lib.Dec.{eqb}
 use lib.ListN.{length, take}
 use borrow.Author.Tests.{eqb-false}
-use Rattle.coding.specs.Matrix.{Independent, Depends, dependsAt, firstDependent}
+use Rattle.coding.specs.Matrix.{Independent, Depends, dependsAt}
+use Rattle.coding.proofs.DependLaws.{firstDependent, dependent-is, dependent-there, dependent-before, dependent-independent, none-independent, independent-none}
 use Rattle.coding.proofs.SearchLaws.{first-le}
-use Rattle.coding.proofs.DependLaws.{dependent-is, dependent-there, dependent-before, dependent-independent, none-independent, independent-none}
 use Rattle.words.specs.Limits.{inRange}
 use Rattle.words.specs.Refusal.{unless, andThen}
 use Rattle.words.specs.Shape.{firstOutside, shapeAnswer}

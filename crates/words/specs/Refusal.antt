@@ -6,8 +6,7 @@ use lib.Dec.{eqb}
 use lib.ListN.{length, drop}
 use Rattle.coding.specs.Lists.{first}
 use Rattle.words.specs.declared.answer.Refusal.{Refusal}
-use Rattle.words.specs.declared.answer.Refusal.the-variants.{OutOfRange, RowCount, RowOutside, Dependent, RadiusTooLarge}
-use Rattle.words.specs.declared.answer.Refusal.the-variants.{TooManyWords, WordOutside, ShortOutput, ShortWork, NoCodeword}
+use Rattle.words.specs.declared.answer.Refusal.the-variants.{OutOfRange, RowCount, RowOutside, Dependent, RadiusTooLarge, TooManyWords, WordOutside, ShortOutput, ShortWork, NoCodeword}
 use Rattle.words.specs.declared.answer.Answer.{Answer}
 use Rattle.words.specs.declared.answer.Answer.the-variants.{Done, Refused}
 
