@@ -32,7 +32,7 @@ extern "C" {
 /* The version of this header. */
 #define RELAY_VERSION_MAJOR 0
 #define RELAY_VERSION_MINOR 3
-#define RELAY_VERSION_PATCH 0
+#define RELAY_VERSION_PATCH 1
 #define RELAY_VERSION (10000 * RELAY_VERSION_MAJOR + 100 * RELAY_VERSION_MINOR + RELAY_VERSION_PATCH)
 
 /* The version of the library, to be compared with RELAY_VERSION. Stack: less than 1 kB. */

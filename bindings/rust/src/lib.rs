@@ -53,7 +53,7 @@ use outcome::front;
 
 /// The version of the library that this crate is written for: 10,000 times the major number, 100 times the minor one, and the
 /// patch.
-pub const VERSION: u32 = 300;
+pub const VERSION: u32 = 301;
 
 /// The most places of a word, n.
 pub const MAX_PLACES: u32 = 28;

@@ -1,5 +1,5 @@
--- The check rows of a matrix are those of 01, part 2: a 1 at the own place, the reduced rows' values at the pivots, and nothing else.
--- Assumes nothing.
+-- The check rows of a matrix are those of 01, part 2: a 1 at the own place, the reduced rows' values at the pivots, and nothing else;
+-- and a word is a codeword exactly when its syndrome is 0. Assumes nothing.
 use mathlib.Core.Logic.{_↔_, _≢_}
 use mathlib.Core.Path.{_≡_, ap, _∙_}
 use mathlib.Core.List.{List, [], _∷_}

@@ -1,4 +1,4 @@
--- Laws of decoding: every syndrome of a matrix has a leader, of weight at most n - k, and a word plus the leader of its syndrome is a
+-- Laws of the coset leaders: every syndrome of a matrix has a leader, of weight at most n - k, and a word plus the leader of its syndrome is a
 -- nearest codeword. Assumes nothing.
 use mathlib.Core.Path.{_≡_, sym, ap, _∙_}
 use mathlib.Core.Logic.{_↔_}

@@ -1,5 +1,5 @@
--- Laws of the search for the lightest: it finds one where there is any, and there is one at most; and a word plus its leader is a
--- nearest codeword. Assumes nothing.
+-- Laws of the search for the lightest: it finds one where there is any, and there is one at most; and a word plus the lightest
+-- word of its syndrome is a nearest codeword. Assumes nothing.
 use mathlib.Core.Path.{_≡_, refl, sym, ap, _∙_}
 use mathlib.Core.Logic.{⊎-elim}
 use mathlib.Core.Option.{Option, none, some}

@@ -1,5 +1,5 @@
 -- Laws of the reduction: adding a row keeps the shape by place and the span, so the reduced rows have the span of the matrix, and a
--- word is a codeword exactly when its syndrome is 0. Assumes nothing.
+-- word is a codeword exactly when they keep it. Assumes nothing.
 use mathlib.Core.Path.{_≡_, refl, sym, ap, ap₂, _∙_, subst}
 use mathlib.Core.Logic.{_≢_, _↔_}
 use mathlib.Core.List.{List, [], _∷_, map}

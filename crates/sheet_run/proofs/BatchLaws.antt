@@ -1,5 +1,4 @@
--- Laws of a batch: the lines by the slots of Decode's lists are those of the outcomes, and a list that is cut behind what a batch may
--- have is refused alike. Assumes nothing.
+-- Laws of a batch: the lines by the slots of Decode's lists are those of the outcomes. Assumes nothing.
 use mathlib.Core.Path.{_≡_, refl, sym, ap, ap₂, _∙_}
 use mathlib.Core.Bool.{Bool, true, false}
 use mathlib.Core.List.{List, [], _∷_, _++_, map}

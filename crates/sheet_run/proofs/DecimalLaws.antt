@@ -1,4 +1,4 @@
--- Laws of decimal digits: the steps, how many there are, and that they are the digits of the number without leading zeros. Assumes nothing.
+-- Laws of decimal digits: the steps, and how many there are. Assumes nothing.
 use mathlib.Core.Path.{_≡_, refl, ap, _∙_}
 use mathlib.Core.List.{List, [], _∷_, _++_}
 use Prim.Native.Nat.{ℕ, zero, suc, _+_, _-_, _/_, _%_, _^_, _≤_, _<_}
