@@ -1,5 +1,5 @@
 -- Laws of the causes of Decode: which group refuses, and what is known when none does. Assumes nothing.
-use mathlib.Core.Path.{_≡_, refl, sym, ap}
+use mathlib.Core.Path.{_≡_, refl, sym, ap, _∙_}
 use mathlib.Core.List.{List}
 use mathlib.Core.Bool.{Bool, true, false}
 use Prim.Native.Nat.{ℕ, _+_, _-_, _*_, _/_, _^_, _≤_, _<_, min}
@@ -19,7 +19,7 @@ use Rattle.words.specs.declared.answer.Refusal.{Refusal}
 use Rattle.words.specs.declared.answer.Refusal.the-variants.{OutOfRange, RowCount, RowOutside, Dependent, RadiusTooLarge, TooManyWords, WordOutside, ShortOutput, ShortWork}
 use Rattle.words.specs.declared.answer.Answer.{Answer}
 use Rattle.words.specs.declared.answer.Answer.the-variants.{Done, Refused}
-use Rattle.words.proofs.AnswerLaws.{unless-done, andThen-done}
+use Rattle.words.proofs.AnswerLaws.{unless-done, andThen-done, andThen-assoc, stays, goes}
 use Rattle.words.proofs.WordListLaws.{Listed, list-in}
 use Rattle.weights.specs.Description.{WeightsOf}
 use Rattle.weights.specs.declared.weights.Weights.{Weights}
@@ -70,15 +70,6 @@ no-dmin a c d e = rw e refl
 pub accepted-past : (n k : ℕ) (rows : List ℕ) (later : Answer) → andThen (matrixAnswer n k rows) later ≡ Done → Accepted n k rows
 accepted-past n k rows later e = accepted-in n k rows (andThen-done (matrixAnswer n k rows) later e .0)
 
--- a refusal among the first groups stands, whatever the last would say
-andThen-refused : (a b c : Answer) (r : Refusal) → andThen a b ≡ Refused r → Refused r ≡ andThen a (andThen b c)
-andThen-refused Done b c r e = rw e refl
-andThen-refused (Refused s) b c r e = sym e
-
-andThen-refused-third : (a b c d : Answer) (r : Refusal) → andThen a (andThen b c) ≡ Refused r → Refused r ≡ andThen a (andThen b (andThen c d))
-andThen-refused-third Done b c d r e = andThen-refused b c d r e
-andThen-refused-third (Refused s) b c d r e = sym e
-
 module _ (n k : ℕ) (rows : List ℕ) (reading : Reading) (words : List ℕ) (slots bytes room : ℕ) where
   -- causes 1 to 4
   pub at-matrix : (c : Refusal) → matrixAnswer n k rows ≡ Refused c → Refused c ≡ decodeAnswer n k rows reading words slots bytes room
@@ -89,17 +80,18 @@ module _ (n k : ℕ) (rows : List ℕ) (reading : Reading) (words : List ℕ) (s
   abbrev firstEight : Answer
   firstEight = andThen (matrixAnswer n k rows) (andThen (radiusAnswer reading (dmin rows)) (listAnswer words n (min slots bytes)))
 
-  pub at-eight : (c : Refusal) → firstEight ≡ Refused c → Refused c ≡ decodeAnswer n k rows reading words slots bytes room
+  eight-then-work : andThen firstEight (workAnswer room (2 ^ (n - k))) ≡ decodeAnswer n k rows reading words slots bytes room
   unfolding decodeAnswer listsAnswer
-  at-eight c e = andThen-refused-third (matrixAnswer n k rows) (radiusAnswer reading (dmin rows)) (listAnswer words n (min slots bytes)) _ c e
+  eight-then-work =
+      andThen-assoc (matrixAnswer n k rows) _ _
+      ∙ ap (andThen (matrixAnswer n k rows)) (andThen-assoc (radiusAnswer reading (dmin rows)) (listAnswer words n (min slots bytes)) _)
+
+  pub at-eight : (c : Refusal) → firstEight ≡ Refused c → Refused c ≡ decodeAnswer n k rows reading words slots bytes room
+  at-eight c e = sym e ∙ stays firstEight (workAnswer room (2 ^ (n - k))) c e ∙ eight-then-work
 
   -- cause 9
   pub at-work : firstEight ≡ Done → workAnswer room (2 ^ (n - k)) ≡ decodeAnswer n k rows reading words slots bytes room
-  unfolding decodeAnswer listsAnswer
-  at-work e =
-      let (m, f) = andThen-done (matrixAnswer n k rows) _ e in
-      let (a, b) = andThen-done (radiusAnswer reading (dmin rows)) (listAnswer words n (min slots bytes)) f in
-      rw (m, a, b) refl
+  at-work e = goes firstEight (workAnswer room (2 ^ (n - k))) e ∙ eight-then-work
 
   -- what is known when causes 1 to 9 have passed
   pub record Passed : Type 0 where

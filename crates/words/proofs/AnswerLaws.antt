@@ -42,6 +42,11 @@ pub andThen-done : (a later : Answer) → andThen a later ≡ Done → (a ≡ Do
 andThen-done Done later e = (refl, e)
 andThen-done (Refused c) later e = refused-done e
 
+-- groups may be taken together
+pub andThen-assoc : (a b c : Answer) → andThen (andThen a b) c ≡ andThen a (andThen b c)
+andThen-assoc Done b c = refl
+andThen-assoc (Refused r) b c = refl
+
 -- the first group refuses, or passes and the next decides
 pub stays : (a later : Answer) (c : Refusal) → a ≡ Refused c → a ≡ andThen a later
 stays a later c e = rw e refl
