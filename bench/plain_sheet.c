@@ -95,6 +95,32 @@ static void print_word(Printer *p, unsigned n, uint32_t codeword, uint8_t count)
         number(p, count, '\n');
 }
 
+static void text(Printer *p, const char *t)
+{
+    size_t length = strlen(t);
+    memcpy(p->out + p->at, t, length);
+    p->at += length;
+}
+
+/* The closing line. */
+static void print_closing(Printer *p, const uint8_t *counts, unsigned length)
+{
+    unsigned clean = 0, far = 0, places = 0;
+    for (unsigned i = 0; i < length; i++) {
+        clean += counts[i] == 0;
+        far += counts[i] == 255;
+        places += counts[i] == 255 ? 0 : counts[i];
+    }
+    text(p, "clean ");
+    number(p, clean, ' ');
+    text(p, "mended ");
+    number(p, length - clean - far, ' ');
+    text(p, "far ");
+    number(p, far, ' ');
+    text(p, "places ");
+    number(p, places, '\n');
+}
+
 size_t plain_run(const uint8_t *sheet, size_t length, uint8_t *out, size_t out_len)
 {
     static Sheet s;
@@ -118,5 +144,6 @@ size_t plain_run(const uint8_t *sheet, size_t length, uint8_t *out, size_t out_l
     number(&p, (d - 1) / 2, '\n');
     for (unsigned i = 0; i < s.word_count; i++)
         print_word(&p, s.n, codewords[i], counts[i]);
+    print_closing(&p, counts, s.word_count);
     return p.at;
 }

@@ -31,8 +31,8 @@ extern "C" {
 
 /* The version of this header. */
 #define RELAY_VERSION_MAJOR 0
-#define RELAY_VERSION_MINOR 3
-#define RELAY_VERSION_PATCH 1
+#define RELAY_VERSION_MINOR 4
+#define RELAY_VERSION_PATCH 0
 #define RELAY_VERSION (10000 * RELAY_VERSION_MAJOR + 100 * RELAY_VERSION_MINOR + RELAY_VERSION_PATCH)
 
 /* The version of the library, to be compared with RELAY_VERSION. Stack: less than 1 kB. */
@@ -134,8 +134,9 @@ uint8_t relay_hsiao_decode(uint8_t *check, uint64_t *data);
 uint32_t relay_hsiao_message(uint8_t check, uint64_t data, uint64_t *message, size_t *value);
 
 /* The run over a code sheet (docs/SHEET.md): writes the lines that the program decode_sheet prints, and returns how many bytes they
- * are. A refusal, causes 1 to 7, 12 and 13, is the one line "refused NUMBER VALUE"; 12 and 13 are tested first. `out` has
- * RELAY_MAX_OUTPUT bytes or more; a shorter list is left as it was, and 0 returned. Slots past the output keep their values.
+ * are; the last is "clean C mended M far F places P", how many words ended so and the sum of the counts of the mended ones. A refusal,
+ * causes 1 to 7, 12 and 13, is the one line "refused NUMBER VALUE"; 12 and 13 are tested first. `out` has RELAY_MAX_OUTPUT bytes or
+ * more; a shorter list is left as it was, and 0 returned. Slots past the output keep their values.
  * Time: as relay_decode. Stack: about 27 kB. */
 size_t relay_run(const uint8_t *sheet, size_t sheet_len, uint8_t *out, size_t out_len);
 

@@ -1,6 +1,6 @@
 #!/usr/bin/env python3
 """The programs over crates/sheet_program, each with its stored input: arguments CRATE and "stdin" give the input, CRATE alone what the
-program prints for it, from document 01 alone."""
+program prints for it, from documents 01 and 02 alone."""
 import random
 import sys
 

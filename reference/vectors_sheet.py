@@ -1,6 +1,6 @@
 #!/usr/bin/env python3
-"""The sheets of crates/vectors_sheet (argument "stdin") and what the program prints for them, from document 01, the specification, alone
-(codes.py)."""
+"""The sheets of crates/vectors_sheet (argument "stdin") and what the program prints for them, from document 01, the specification, and
+document 02's closing line alone (codes.py)."""
 import random
 import sys
 from itertools import combinations
@@ -50,7 +50,15 @@ def output(s):
     d = dmin(rows)
     lines = ['%d %d %d %d' % (n, k, d, (d - 1) // 2)]
     lines += ['%s %s' % (digits(n, w), 'far' if count == 255 else count) for w, count in zip(out, counts)]
+    lines.append(closing(lines[1:]))
     return '\n'.join(lines) + '\n'
+
+def closing(lines):
+    """The closing line, by what the lines of the words show."""
+    shown = [line.split(' ')[1] for line in lines]
+    clean, far = shown.count('0'), shown.count('far')
+    places = sum(int(count) for count in shown if count != 'far')
+    return 'clean %d mended %d far %d places %d' % (clean, len(shown) - clean - far, far, places)
 
 # ---- sheets
 def field(tag, content):
@@ -67,8 +75,11 @@ ROWS, WORDS = [0x31, 0x2A, 0x1C], [0x23, 0x1F]
 WORKED = sheet(6, 3, ROWS, WORDS)
 WITHIN = sheet(6, 3, ROWS, WORDS, 1)
 assert WORKED == bytes.fromhex('01000106 02000103 03000C31 0000002A 0000001C 00000005 00082300 00001F00 0000')
-assert output(WORKED) == '6 3 3 1\n010101 2\n110110 1\n'
+assert output(WORKED) == '6 3 3 1\n010101 2\n110110 1\nclean 0 mended 2 far 0 places 3\n'
 assert output(WITHIN).splitlines()[1] == '110001 far'
+assert output(WITHIN).splitlines()[3] == 'clean 0 mended 1 far 1 places 1'
+assert output(sheet(6, 3, ROWS, [])) == '6 3 3 1\nclean 0 mended 0 far 0 places 0\n'
+assert output(sheet(6, 3, ROWS, WORDS, 2)) == 'refused 5 0\n'
 assert output(b'') == 'refused 13 0\n'
 
 SHEETS = []

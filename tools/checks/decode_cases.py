@@ -11,6 +11,7 @@ from checks.harness import CODE, ENVIRONMENT, NO_ROWS, ROOT, Group, path, progra
 SAMPLES = NO_ROWS + ['--rows', path('samples', 'rows.txt'), '--words', path('samples', 'words.txt')]
 WITHIN = 'within radius 1, n 6 k 3 dmin 3 t 1\n'
 NEAREST = 'nearest, n 6 k 3 dmin 3 t 1\n'
+ONE_FAR = 'clean 0 mended 0 far 1 places 0\n'
 
 
 def as_text():
@@ -48,7 +49,7 @@ def as_tables(files):
     found = json.loads(run('decode', SAMPLES + ['--json'])[1])
     g.same('--json, nearest', (found['radius'], found['words'][0]['outcome']), (None, 'guess'))
 
-    other = files.fake('6 3 9 4\n111111 4\n')
+    other = files.fake('6 3 9 4\n111111 4\nclean 0 mended 1 far 0 places 4\n')
     line = b'0 111111 4\n# words 1 clean 0 mended 1 guess 0 far 0 places 4; nearest, n 6 k 3 dmin 9 t 4\n'
     g.same('--program', run('decode', CODE + ['110001', '--program', other]), (0, line, b''))
     g.same('the environment variable', run('decode', CODE + ['110001'], env={**ENVIRONMENT, 'DECODE_SHEET': other}), (0, line, b''))
@@ -71,7 +72,7 @@ def stored():
         table = list(csv.DictReader(io.StringIO(found.decode())))
         printed = ['%s %s' % ((w['received'], 'far') if w['outcome'] == 'far' else (w['codeword'], w['count'])) for w in table]
         g.same(title, (printed, [w['received'] for w in table], status),
-               (said.split('\n')[1:-1], words, 3 if ' far\n' in said else 0))
+               (said.split('\n')[1:-2], words, 3 if ' far\n' in said else 0))
         far += status == 3
     g.true('batches with and without far words arise', 0 < far < g.cases)
     g.end()
@@ -143,21 +144,24 @@ def could_not_run(files):
     said, line = 'the program printed %d lines for 1 words, the first: %s', 'the program printed for word 0: '
     for case, prints, after, message in (
             ('nothing printed', '', '', 'FAKE printed nothing'),
-            ('an exit status', '6 3 3 1\n010101 2\n', 'exit 5', 'FAKE failed with status 5: '),
-            ('a signal', '6 3 3 1\n010101 2\n', 'kill -9 $$', 'FAKE failed with status -9: '),
-            ('a complaint', '6 3 3 1\n010101 2\n', 'echo cannot >&2', 'FAKE failed with status 0: cannot'),
-            ('a line missing', '6 3 3 1\n', '', said % (1, '6 3 3 1')),
-            ('a line too many', '6 3 3 1\n010101 2\n010101 2\n', '', said % (3, '6 3 3 1')),
-            ('a line cut', '6 3 3 1\n010101 2', '', said % (1, '6 3 3 1')),
-            ('another code', '7 3 3 1\n010101 2\n', '', said % (2, '7 3 3 1')),
-            ('a refusal and more', 'refused 4 2\n010101 2\n', '', said % (2, 'refused 4 2')),
+            ('an exit status', '6 3 3 1\n110001 far\n' + ONE_FAR, 'exit 5', 'FAKE failed with status 5: '),
+            ('a signal', '6 3 3 1\n110001 far\n' + ONE_FAR, 'kill -9 $$', 'FAKE failed with status -9: '),
+            ('a complaint', '6 3 3 1\n110001 far\n' + ONE_FAR, 'echo cannot >&2', 'FAKE failed with status 0: cannot'),
+            ('a line missing', '6 3 3 1\n' + ONE_FAR, '', said % (2, '6 3 3 1')),
+            ('a line too many', '6 3 3 1\n110001 far\n110001 far\n' + ONE_FAR, '', said % (4, '6 3 3 1')),
+            ('a line cut', '6 3 3 1\n110001 far\n' + ONE_FAR[:-1], '', said % (2, '6 3 3 1')),
+            ('another code', '7 3 3 1\n110001 far\n' + ONE_FAR, '', said % (3, '7 3 3 1')),
+            ('a refusal and more', 'refused 4 2\n110001 far\n' + ONE_FAR, '', said % (3, 'refused 4 2')),
             ('other text', 'hello\n', '', said % (1, 'hello')),
-            ('a word cut', '6 3 3 1\n01010 2\n', '', line + '01010 2'),
-            ('no count', '6 3 3 1\n010101 -\n', '', line + '010101 -'),
-            ('another word far', '6 3 3 1\n010101 far\n', '', line + '010101 far'),
-            ('a count above the radius', '6 3 3 1\n010101 2\n', '', line + '010101 2')):
+            ('a word cut', '6 3 3 1\n11001 far\n' + ONE_FAR, '', line + '11001 far'),
+            ('no count', '6 3 3 1\n010101 -\n' + ONE_FAR, '', line + '010101 -'),
+            ('another word far', '6 3 3 1\n010101 far\n' + ONE_FAR, '', line + '010101 far'),
+            ('a count above the radius', '6 3 3 1\n010101 2\nclean 0 mended 1 far 0 places 2\n', '', line + '010101 2'),
+            ('no closing line', '6 3 3 1\n110001 far\n', '', said % (2, '6 3 3 1')),
+            ('another closing line', '6 3 3 1\n110001 far\nclean 0 mended 0 far 1 places 255\n', '',
+             'the program printed as its closing line: clean 0 mended 0 far 1 places 255; its lines add up to: ' + ONE_FAR[:-1])):
         fake = files.fake(prints, after)
         g.refused(case, 'decode', CODE + ['-r', '1', '110001', '--program', fake], message.replace('FAKE', fake), status=2)
-    g.refused('far in nearest reading', 'decode', CODE + ['110001', '--program', files.fake('6 3 3 1\n110001 far\n')],
+    g.refused('far in nearest reading', 'decode', CODE + ['110001', '--program', files.fake('6 3 3 1\n110001 far\n' + ONE_FAR)],
               line + '110001 far', status=2)
     g.end()

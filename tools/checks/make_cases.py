@@ -98,9 +98,9 @@ def bad(files):
 def faulty():
     g = Group('make_sheet --faulty, and what the program says')
     for case, args, given, wanted in (
-            ('nothing wrong', CODE + ['110001'], b'', '6 3 3 1\n010101 2\n'),
-            ('a short word', CODE + ['11000'], b'', '6 3 3 1\n111000 1\n'),
-            ('an empty word', CODE + [''], b'', '6 3 3 1\n000000 0\n'),
+            ('nothing wrong', CODE + ['110001'], b'', '6 3 3 1\n010101 2\nclean 0 mended 1 far 0 places 2\n'),
+            ('a short word', CODE + ['11000'], b'', '6 3 3 1\n111000 1\nclean 0 mended 1 far 0 places 1\n'),
+            ('an empty word', CODE + [''], b'', '6 3 3 1\n000000 0\nclean 1 mended 0 far 0 places 0\n'),
             ('a word with a one at place 6', CODE + ['110001', '0000001'], b'', 'refused 7 1\n'),
             ('a row with a one at place 6', ['6', '3', '100011,0101011,001110', '110001'], b'', 'refused 3 1\n'),
             ('an empty row', ['6', '3', '100011,,001110', '110001'], b'', 'refused 4 1\n'),

@@ -53,7 +53,7 @@ use outcome::front;
 
 /// The version of the library that this crate is written for: 10,000 times the major number, 100 times the minor one, and the
 /// patch.
-pub const VERSION: u32 = 301;
+pub const VERSION: u32 = 400;
 
 /// The most places of a word, n.
 pub const MAX_PLACES: u32 = 28;
@@ -255,7 +255,8 @@ pub fn hsiao_message(codeword: HsiaoWord) -> Result<u64, Refusal> {
 }
 
 /// What the program `decode_sheet` prints for the bytes of a code sheet, written to the front of `out`; the rest keeps its
-/// values. A refused sheet, causes 1 to 7, 12 and 13, is an error; its one line, "refused NUMBER VALUE", is written too.
+/// values. The last line, "clean C mended M far F places P", adds the words up. A refused sheet, causes 1 to 7, 12 and 13, is an
+/// error; its one line, "refused NUMBER VALUE", is written too.
 pub fn run<'a>(sheet: &[u8], out: &'a mut [u8; MAX_OUTPUT]) -> Result<&'a [u8], Refusal> {
     let length = unsafe { raw::relay_run(sheet.as_ptr(), sheet.len(), out.as_mut_ptr(), out.len()) };
     let printed = front(&out[..], length);

@@ -1,4 +1,4 @@
--- Laws of a batch: the lines by the slots of Decode's lists are those of the outcomes. Assumes nothing.
+-- Laws of a batch: the lines and the tally by the slots of Decode's lists are those of the outcomes. Assumes nothing.
 use mathlib.Core.Path.{_≡_, refl, sym, ap, ap₂, _∙_}
 use mathlib.Core.Bool.{Bool, true, false}
 use mathlib.Core.List.{List, [], _∷_, _++_, map}
@@ -27,39 +27,46 @@ use Rattle.outcomes.specs.declared.ending.Reading.{Reading}
 use Rattle.outcomes.specs.declared.ending.Outcome.{Outcome}
 use Rattle.outcomes.specs.declared.ending.Outcome.the-variants.{Clean, Mended, Far}
 use Rattle.decoder.proofs.CauseLaws.{Passed, batch-in}
-use Rattle.sheet_run.specs.Output.{ending, wordLine, wordLines, refusedLine, codeLine, linesOf, batchOutput}
-use Rattle.sheet_run.specs.Inner.Slots.{slotEnding, slotLine, slotLines}
+use Rattle.sheet_run.specs.Text.{space, lineFeed}
+use Rattle.sheet_run.specs.Closing.{tallyOf, closingLine}
+use Rattle.sheet_run.specs.Output.{digitsOf, ending, wordLine, wordLines, refusedLine, codeLine, linesOf, batchOutput}
+use Rattle.sheet_run.specs.Inner.Slots.{slotOutcome, slotLine, slotLines, slotTally}
+use Rattle.sheet_run.proofs.TallyLaws.{bare, Tells, slot-says, tally-read}
 
--- ---- the lines by the slots
+-- ---- the lines and the tally by the slots
 
--- no count is 255, so that 255 is far
-slot-ending : (reading : Reading) (w e : ℕ) → weight e < 255 → slotEnding (countIn (outcomeOf reading w e)) ≡ ending (outcomeOf reading w e)
-slot-ending reading w e h = go (ℕ-discrete (weight e) 0) (takes reading (weight e)) refl
+-- a mended word has a count, and no word has 255 places
+outcome-tells : (reading : Reading) (w e : ℕ) → weight e < 255 → Tells (outcomeOf reading w e)
+outcome-tells reading w e h = go (ℕ-discrete (weight e) 0) (takes reading (weight e)) refl
   where
-    go : Dec (weight e ≡ 0) → (b : Bool) → takes reading (weight e) ≡ b
-        → slotEnding (countIn (outcomeOf reading w e)) ≡ ending (outcomeOf reading w e)
-    go (yes z) b q =
-        let c : outcomeOf reading w e ≡ Clean w = simp (eq-eqb (weight e) 0 z) in
-        ap (λ (o : Outcome). slotEnding (countIn o)) c ∙ sym (ap ending c)
-    go (no n) true q =
-        let c : outcomeOf reading w e ≡ Mended (w ⊕ e) (weight e) = simp (ne-eqb (weight e) 0 n, q) in
-        ap (λ (o : Outcome). slotEnding (countIn o)) c ∙ (simp (ne-eqb (weight e) 255 (λ k. absurd (omega (arith, k, h))))) ∙ sym (ap ending c)
-    go (no n) false q =
-        let c : outcomeOf reading w e ≡ Far = simp (ne-eqb (weight e) 0 n, q) in
-        ap (λ (o : Outcome). slotEnding (countIn o)) c ∙ sym (ap ending c)
+    go : Dec (weight e ≡ 0) → (b : Bool) → takes reading (weight e) ≡ b → Tells (outcomeOf reading w e)
+    go (yes z) b q = rw (eq-eqb (weight e) 0 z) tt
+    go (no n) true q = rw (ne-eqb (weight e) 0 n, q) (n, λ k. absurd (omega (arith, k, h)))
+    go (no n) false q = rw (ne-eqb (weight e) 0 n, q) tt
 
-slot-line : (n : ℕ) (reading : Reading) (w e : ℕ) → weight e < 255
-    → slotLine n (wordIn (outcomeOf reading w e) w) (countIn (outcomeOf reading w e)) ≡ wordLine n w (outcomeOf reading w e)
-unfolding slotLine wordLine
-slot-line n reading w e h = rw (slot-ending reading w e h) refl
+bare-ending : (o : Outcome) → ending (bare o) ≡ ending o
+bare-ending (Clean c) = refl
+bare-ending (Mended c d) = refl
+bare-ending Far = refl
 
-slot-lines : (n k : ℕ) (rows : List ℕ) → Accepted n k rows → (reading : Reading) (words : List ℕ)
-    → slotLines n (map (wordOf n rows reading) words) (map (countOf n rows reading) words) ≡ wordLines n (decodedAs n rows reading) words
-unfolding slotLines wordLines
-slot-lines n k rows A reading [] = refl
-slot-lines n k rows A reading (w ∷ words) =
-    ap₂ _++_ (slot-line n reading w (leaderOf n rows (syndromeOf n rows w)) (omega (arith, leader-weight n k rows A w, A .range .checks)))
-    (slot-lines n k rows A reading words)
+module _ (n k : ℕ) (rows : List ℕ) (A : Accepted n k rows) (reading : Reading) where
+  pub decoded-tells : (w : ℕ) → Tells (decodedAs n rows reading w)
+  decoded-tells w =
+      outcome-tells reading w (leaderOf n rows (syndromeOf n rows w)) (omega (arith, leader-weight n k rows A w, A .range .checks))
+
+  slot-decoded : (w : ℕ) → slotOutcome (countOf n rows reading w) ≡ bare (decodedAs n rows reading w)
+  slot-decoded w = slot-says (decodedAs n rows reading w) (decoded-tells w)
+
+  slot-lines : (words : List ℕ)
+      → slotLines n (map (wordOf n rows reading) words) (map (countOf n rows reading) words) ≡ wordLines n (decodedAs n rows reading) words
+  unfolding slotLines slotLine wordLines wordLine
+  slot-lines [] = refl
+  slot-lines (w ∷ words) =
+      ap₂ (λ (x y : List ℕ). digitsOf n (wordOf n rows reading w) ++ space ∷ x ++ lineFeed ∷ [] ++ y)
+      (ap ending (slot-decoded w) ∙ bare-ending (decodedAs n rows reading w)) (slot-lines words)
+
+  slot-tally : (words : List ℕ) → slotTally (map (countOf n rows reading) words) ≡ tallyOf (map (decodedAs n rows reading) words)
+  slot-tally words = tally-read (decodedAs n rows reading) (countOf n rows reading) slotOutcome slot-decoded words
 
 -- ---- what Decode leaves, with lists as long as a batch may have
 
@@ -111,11 +118,18 @@ module _ {B : Batch} {r : Answer} {after : Lent}
     pub counts-room : length (B .words) ≤ length (after .counts)
     counts-room = omega (arith, counts-length, length-take (length (B .words)) (after .counts))
 
+    lines-are : slotLines (B .n) (take (length (B .words)) (after .codewords)) (take (length (B .words)) (after .counts))
+        ≡ wordLines (B .n) (decodedAs (B .n) (B .rows) (B .reading)) (B .words)
+    lines-are = ap₂ (slotLines (B .n)) codewords-are counts-are ∙ slot-lines (B .n) (B .k) (B .rows) accepted (B .reading) (B .words)
+
+    tally-is : slotTally (take (length (B .words)) (after .counts)) ≡ tallyOf (map (decodedAs (B .n) (B .rows) (B .reading)) (B .words))
+    tally-is = ap slotTally counts-are ∙ slot-tally (B .n) (B .k) (B .rows) accepted (B .reading) (B .words)
+
     pub done-output : (x : ℕ) → x ≡ ifDone r (dmin (B .rows)) 0
-        → codeLine (B .n) (B .k) x ++ slotLines (B .n) (take (length (B .words)) (after .codewords))
-        (take (length (B .words)) (after .counts)) ≡ batchOutput (B .n) (B .k) (B .rows) (B .reading) (B .words)
+        → codeLine (B .n) (B .k) x
+        ++ slotLines (B .n) (take (length (B .words)) (after .codewords)) (take (length (B .words)) (after .counts))
+        ++ closingLine (slotTally (take (length (B .words)) (after .counts))) ≡ batchOutput (B .n) (B .k) (B .rows) (B .reading) (B .words)
     unfolding batchOutput
     done-output x e =
-        ap₂ (λ (y : ℕ) (l : List ℕ). codeLine (B .n) (B .k) y ++ l) (rw d at e)
-        (ap₂ (slotLines (B .n)) codewords-are counts-are ∙ slot-lines (B .n) (B .k) (B .rows) accepted (B .reading) (B .words))
+        ap₂ (λ (l m : List ℕ). l ++ m) (ap₂ (λ (y : ℕ) (l : List ℕ). codeLine (B .n) (B .k) y ++ l) (rw d at e) lines-are) (ap closingLine tally-is)
         ∙ ap (λ (a : Answer). linesOf a (B .n) (B .k) (B .rows) (B .reading) (B .words)) (sym d ∙ answer-is)

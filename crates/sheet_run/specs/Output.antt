@@ -1,5 +1,5 @@
--- 01, "The code sheet": what the program prints for the bytes of a sheet.
-use mathlib.Core.List.{List, [], _∷_, _++_}
+-- 01, "The code sheet", and 02, No. 1: what the program prints for the bytes of a sheet.
+use mathlib.Core.List.{List, [], _∷_, _++_, map}
 use Prim.Native.Nat.{ℕ, _-_, _/_, _^_}
 use Rattle.coding.specs.Lists.{tabulate}
 use Rattle.coding.specs.Word.{bit}
@@ -17,30 +17,16 @@ use Rattle.sheet.specs.Fault as fault
 use Rattle.sheet.specs.Sheet.{sheetOf}
 use Rattle.sheet.specs.Words.{wordsIn}
 use Rattle.sheet_run.specs.Decimal.{digit, decimal}
+use Rattle.sheet_run.specs.Text.{written, space, lineFeed}
+use Rattle.sheet_run.specs.Closing.{tallyOf, closingLine}
 use Rattle.sheet.specs.declared.answer.SheetAnswer.{SheetAnswer}
 use Rattle.sheet.specs.declared.answer.SheetAnswer.the-variants as reading
-
--- ---- characters
-
-abbrev pub space : ℕ
-space = 32
-
-abbrev pub lineFeed : ℕ
-lineFeed = 10
-
--- "far"
-abbrev pub farText : List ℕ
-farText = 102 ∷ 97 ∷ 114 ∷ []
-
--- "refused"
-abbrev pub refusedText : List ℕ
-refusedText = 114 ∷ 101 ∷ 102 ∷ 117 ∷ 115 ∷ 101 ∷ 100 ∷ []
 
 -- ---- lines
 
 -- "refused", the number and the value beside it
 unfoldable pub refusedLine : ℕ → ℕ → List ℕ
-refusedLine number value = refusedText ++ space ∷ decimal number ++ space ∷ decimal value ++ lineFeed ∷ []
+refusedLine number value = written "refused " ++ decimal number ++ space ∷ decimal value ++ lineFeed ∷ []
 
 -- "n k dmin t" with t = (dmin - 1) / 2 rounded down
 unfoldable pub codeLine : ℕ → ℕ → ℕ → List ℕ
@@ -54,7 +40,7 @@ digitsOf n w = tabulate (λ i. digit (bit w i)) n
 abbrev pub ending : Outcome → List ℕ
 ending (Clean c) = decimal 0
 ending (Mended c count) = decimal count
-ending Far = farText
+ending Far = written "far"
 
 -- the line of a received word: the digits of the codeword and the count, or the received digits and "far"
 unfoldable pub wordLine : ℕ → ℕ → Outcome → List ℕ
@@ -67,10 +53,12 @@ wordLines n outcome (w ∷ words) = wordLine n w (outcome w) ++ wordLines n outc
 
 -- ---- the output
 
--- the lines of a batch, or the one line of a refusal
+-- the lines of a batch, the closing line last, or the one line of a refusal
 abbrev pub linesOf : Answer → ℕ → ℕ → List ℕ → Reading → List ℕ → List ℕ
 linesOf (Refused c) n k rows reading words = refusedLine (numberOf c) (valueOf c)
-linesOf Done n k rows reading words = codeLine n k (dmin rows) ++ wordLines n (decodedAs n rows reading) words
+linesOf Done n k rows reading words =
+    codeLine n k (dmin rows) ++ wordLines n (decodedAs n rows reading) words
+    ++ closingLine (tallyOf (map (decodedAs n rows reading) words))
 
 -- the output for a batch; the lists lent to Decode are as long as 01 allows, so that causes 8 and 9 do not arise
 unfoldable pub batchOutput : ℕ → ℕ → List ℕ → Reading → List ℕ → List ℕ

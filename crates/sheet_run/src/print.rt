@@ -1,14 +1,18 @@
 // The lines of the output. Each writer puts its bytes from a position on and answers the position after them.
+use crate::tally::FAR;
+use crate::tally::Tally;
+use crate::tally::tally_of;
 ghost use mathlib.Core.List.{[], _∷_, _++_};
 ghost use Prim.Native.Nat.{_+_, _*_, _≤_};
 ghost use lib.ListN.{length};
 ghost use mathlib.Core.Path.{_≡_};
 ghost use Rattle.sheet_run.specs.Inner.Appended.{Appends};
 ghost use Rattle.sheet_run.specs.Decimal.{decimal};
-ghost use Rattle.sheet_run.specs.Output.{refusedLine, codeLine, digitsOf};
-ghost use Rattle.sheet_run.specs.Inner.Room.{numberRoom, refusalRoom, codeRoom, endingRoom, lineRoom};
-ghost use Rattle.sheet_run.specs.Inner.Slots.{slotEnding, slotLine, slotLines};
-ghost use Rattle.words.specs.Limits.{width};
+ghost use Rattle.sheet_run.specs.Output.{refusedLine, codeLine, digitsOf, ending};
+ghost use Rattle.sheet_run.specs.Closing.{closingLine};
+ghost use Rattle.sheet_run.specs.Inner.Room.{numberRoom, refusalRoom, codeRoom, endingRoom, lineRoom, closingRoom};
+ghost use Rattle.sheet_run.specs.Inner.Slots.{slotOutcome, slotLine, slotLines, slotTally};
+ghost use Rattle.words.specs.Limits.{width, maxWords};
 
 // The characters that are printed besides digits and texts.
 const SPACE: u8 = 32;
@@ -17,9 +21,6 @@ const LINE_FEED: u8 = 10;
 
 // The digit 0; the others follow it.
 const ZERO: u8 = 48;
-
-// The count of a far word.
-const FAR: u8 = 255;
 
 fn put(out: &mut [u8], at: usize, b: u8) -> usize
     requires { ⌜ at + 1 ≤ length (now out) ⌝ }
@@ -63,14 +64,23 @@ fn put_number(out: &mut [u8], at: usize, x: usize, after: u8) -> usize
     put(out, next, after)
 }
 
+// A word and the number after it.
+fn put_named(out: &mut [u8], at: usize, name: &[u8], x: usize, after: u8) -> usize
+    requires { ⌜ at + length (now name) + numberRoom ≤ length (now out) ⌝ }
+    ensures { λ r. ⌜ Appends (now (out .entry)) at (now (name .entry) ++ (decimal x ++ (after ∷ []))) (now (out .exit)) r ⌝ }
+    ensures { λ r. ⌜ r ≤ at + length (now (name .entry)) + numberRoom ⌝ }
+{
+    let a = put_text(out, at, name);
+    put_number(out, a, x, after)
+}
+
 // The one line of a refusal.
 pub(crate) fn put_refusal(out: &mut [u8], number: u32, value: usize) -> usize
     requires { ⌜ refusalRoom ≤ length (now out) ⌝ }
     ensures { λ r. ⌜ Appends (now (out .entry)) 0 (refusedLine number value) (now (out .exit)) r ⌝ }
 {
-    let a = put_text(out, 0, b"refused ");
-    let b = put_number(out, a, number as usize, SPACE);
-    put_number(out, b, value, LINE_FEED)
+    let a = put_named(out, 0, b"refused ", number as usize, SPACE);
+    put_number(out, a, value, LINE_FEED)
 }
 
 // n, k, dmin and t.
@@ -101,7 +111,7 @@ fn put_digits(out: &mut [u8], at: usize, n: u32, w: u32) -> usize
 // The count, or "far".
 fn put_ending(out: &mut [u8], at: usize, count: u8) -> usize
     requires { ⌜ at + endingRoom ≤ length (now out) ⌝ }
-    ensures { λ r. ⌜ Appends (now (out .entry)) at (slotEnding count) (now (out .exit)) r ⌝ }
+    ensures { λ r. ⌜ Appends (now (out .entry)) at (ending (slotOutcome count)) (now (out .exit)) r ⌝ }
     ensures { λ r. ⌜ r ≤ at + endingRoom ⌝ }
 {
     if count == FAR {
@@ -125,6 +135,7 @@ fn put_line(out: &mut [u8], at: usize, n: u32, c: u32, count: u8) -> usize
 fn put_lines(out: &mut [u8], at: usize, n: u32, codewords: &[u32], counts: &[u8]) -> usize
     requires { ⌜ (n ≤ width) × (length (now counts) ≡ length (now codewords)) × (at + lineRoom * length (now codewords) ≤ length (now out)) ⌝ }
     ensures { λ r. ⌜ Appends (now (out .entry)) at (slotLines n (now (codewords .entry)) (now (counts .entry))) (now (out .exit)) r ⌝ }
+    ensures { λ r. ⌜ r ≤ at + lineRoom * length (now (codewords .entry)) ⌝ }
 {
     let mut next = at;
     let mut i: usize = 0;
@@ -133,6 +144,17 @@ fn put_lines(out: &mut [u8], at: usize, n: u32, codewords: &[u32], counts: &[u8]
         i += 1;
     }
     next
+}
+
+// The closing line.
+fn put_closing(out: &mut [u8], at: usize, t: Tally) -> usize
+    requires { ⌜ at + closingRoom ≤ length (now out) ⌝ }
+    ensures { λ r. ⌜ Appends (now (out .entry)) at (closingLine t) (now (out .exit)) r ⌝ }
+{
+    let a = put_named(out, at, b"clean ", t.clean as usize, SPACE);
+    let b = put_named(out, a, b"mended ", t.mended as usize, SPACE);
+    let c = put_named(out, b, b"far ", t.far as usize, SPACE);
+    put_named(out, c, b"places ", t.places as usize, LINE_FEED)
 }
 
 // All lines of a batch.
@@ -144,9 +166,13 @@ pub(crate) fn put_batch(
     codewords: &[u32],
     counts: &[u8],
 ) -> usize
-    requires { ⌜ (n ≤ width) × (1 ≤ d) × (length (now counts) ≡ length (now codewords)) × (codeRoom + lineRoom * length (now codewords) ≤ length (now out)) ⌝ }
-    ensures { λ r. ⌜ Appends (now (out .entry)) 0 (codeLine n k d ++ slotLines n (now (codewords .entry)) (now (counts .entry))) (now (out .exit)) r ⌝ }
+    requires { ⌜ (n ≤ width) × (1 ≤ d) × (length (now codewords) ≤ maxWords) × (length (now counts) ≡ length (now codewords))
+        × (codeRoom + lineRoom * length (now codewords) + closingRoom ≤ length (now out)) ⌝ }
+    ensures { λ r. ⌜ Appends (now (out .entry)) 0
+        (codeLine n k d ++ slotLines n (now (codewords .entry)) (now (counts .entry)) ++ closingLine (slotTally (now (counts .entry))))
+        (now (out .exit)) r ⌝ }
 {
     let a = put_code(out, n, k, d);
-    put_lines(out, a, n, codewords, counts)
+    let b = put_lines(out, a, n, codewords, counts);
+    put_closing(out, b, tally_of(counts))
 }

@@ -1,1 +1,2 @@
 pub mod Starred  -- the value of the table
+pub mod Sheets  -- the value of the table of sheets

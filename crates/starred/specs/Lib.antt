@@ -1,2 +1,3 @@
 pub mod Matrices  -- the matrices of the examples
 pub mod Starred  -- the table
+pub mod Sheets  -- the sheets, and what is printed for them

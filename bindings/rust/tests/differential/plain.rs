@@ -289,7 +289,14 @@ pub fn lines(sheet: &[u8]) -> Result<String, Refused> {
         text.extend((0..s.n).map(|p| if out[i] >> p & 1 == 1 { '1' } else { '0' }));
         text += &if counts[i] == FAR { " far\n".to_string() } else { format!(" {}\n", counts[i]) };
     }
-    Ok(text)
+    Ok(text + &closing(&counts[..s.words.len()]))
+}
+
+/// The closing line: how many words ended clean, mended and far, and the sum of the counts of the mended ones.
+fn closing(counts: &[u8]) -> String {
+    let mended: Vec<u32> = counts.iter().filter(|&&c| c != 0 && c != FAR).map(|&c| c.into()).collect();
+    let of = |count: u8| counts.iter().filter(|&&c| c == count).count();
+    format!("clean {} mended {} far {} places {}\n", of(0), mended.len(), of(FAR), mended.iter().sum::<u32>())
 }
 
 /// What the run prints for a sheet.

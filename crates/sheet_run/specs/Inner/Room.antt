@@ -20,3 +20,7 @@ endingRoom = 3
 -- 32 digits, a blank, an ending and a line feed
 abbrev pub lineRoom : ℕ
 lineRoom = 37
+
+-- "clean", "mended", "far" and "places", each with a blank and a number
+abbrev pub closingRoom : ℕ
+closingRoom = 108

@@ -1,7 +1,8 @@
--- `starred::examples_hold`: the value of the table. Assumes nothing.
+-- `starred::examples_hold`: the values of the tables. Assumes nothing.
 use Rattle.starred.proofs.Starred.{starred}
+use Rattle.starred.proofs.Sheets.{sheets}
 use Rattle.starred.proofs.examples_hold.Statement.{statement}
 use Rattle.starred.proofs.examples_hold.Tie as tie
 
 pub examples-hold-spec : {M : Type 1} → statement M
-examples-hold-spec = tie.close (tie.spec (λ c. starred))
+examples-hold-spec = tie.close (tie.spec (λ c. (starred, sheets)))

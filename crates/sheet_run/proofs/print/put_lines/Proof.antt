@@ -42,7 +42,7 @@ returns : tie.Need-returns Inv-loop μ-loop
 returns c =
     let l = c .before in
     let a = start l .args in
-    appends-as (l .loop .inv .2) _ (slot-lines-all (a .n) (l .loop .i) (a .codewords .now) (a .counts .now) (omega arith) (omega arith))
+    (appends-as (l .loop .inv .2) _ (slot-lines-all (a .n) (l .loop .i) (a .codewords .now) (a .counts .now) (omega arith) (omega arith)), omega arith)
 
 pub put-lines-spec : {M : Type 1} → statement M
 put-lines-spec =

@@ -30,6 +30,7 @@ put-batch-requires c κs =
     let d = t .enum-told .given .1 in (
       few-places D d,
       apart D d _ e,
+      omega (arith, codewords-length D d, few-words D d),
       counts-length D d ∙ sym (codewords-length D d),
       omega (arith, codewords-length D d, few-words D d),
     )
