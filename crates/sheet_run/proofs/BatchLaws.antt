@@ -9,7 +9,7 @@ use borrow.Author.Tests.{eq-eqb, ne-eqb}
 use lib.ListN.{length, take, length-map, length-take, length-replicate}
 use lib.Seq.{take-at}
 use Rattle.coding.specs.Lists.{zeros}
-use Rattle.coding.specs.Word.{_⊕_, weight}
+use Rattle.coding.specs.Word.{weight}
 use Rattle.coding.specs.Weight.{dmin}
 use Rattle.coding.specs.Leader.{syndromeOf, leaderOf}
 use Rattle.words.specs.Limits.{maxWords, maxChecks}
@@ -20,18 +20,16 @@ use Rattle.words.specs.declared.answer.Answer.{Answer}
 use Rattle.words.specs.declared.answer.Answer.the-variants.{Done, Refused}
 use Rattle.words.proofs.AcceptedLaws.{accepted-in}
 use Rattle.words.proofs.CodeLaws.{distance-is, leader-weight}
-use Rattle.outcomes.specs.Outcome.{takes, outcomeOf, wordIn, countIn, decodedAs, wordOf, countOf}
+use Rattle.outcomes.specs.Outcome.{takes, outcomeOf, decodedAs, wordOf, countOf}
 use Rattle.decoder.specs.Causes.{decodeAnswer}
 use Rattle.decoder.specs.Decoded.{Batch, Lent, Decoded}
 use Rattle.outcomes.specs.declared.ending.Reading.{Reading}
-use Rattle.outcomes.specs.declared.ending.Outcome.{Outcome}
-use Rattle.outcomes.specs.declared.ending.Outcome.the-variants.{Clean, Mended, Far}
 use Rattle.decoder.proofs.CauseLaws.{Passed, batch-in}
 use Rattle.sheet_run.specs.Text.{space, lineFeed}
 use Rattle.sheet_run.specs.Closing.{tallyOf, closingLine}
 use Rattle.sheet_run.specs.Output.{digitsOf, ending, wordLine, wordLines, refusedLine, codeLine, linesOf, batchOutput}
 use Rattle.sheet_run.specs.Inner.Slots.{slotOutcome, slotLine, slotLines, slotTally}
-use Rattle.sheet_run.proofs.TallyLaws.{bare, Tells, slot-says, tally-read}
+use Rattle.sheet_run.proofs.TallyLaws.{bare, bare-says, Tells, slot-says, tally-read}
 
 -- ---- the lines and the tally by the slots
 
@@ -43,11 +41,6 @@ outcome-tells reading w e h = go (ℕ-discrete (weight e) 0) (takes reading (wei
     go (yes z) b q = rw (eq-eqb (weight e) 0 z) tt
     go (no n) true q = rw (ne-eqb (weight e) 0 n, q) (n, λ k. absurd (omega (arith, k, h)))
     go (no n) false q = rw (ne-eqb (weight e) 0 n, q) tt
-
-bare-ending : (o : Outcome) → ending (bare o) ≡ ending o
-bare-ending (Clean c) = refl
-bare-ending (Mended c d) = refl
-bare-ending Far = refl
 
 module _ (n k : ℕ) (rows : List ℕ) (A : Accepted n k rows) (reading : Reading) where
   pub decoded-tells : (w : ℕ) → Tells (decodedAs n rows reading w)
@@ -63,7 +56,7 @@ module _ (n k : ℕ) (rows : List ℕ) (A : Accepted n k rows) (reading : Readin
   slot-lines [] = refl
   slot-lines (w ∷ words) =
       ap₂ (λ (x y : List ℕ). digitsOf n (wordOf n rows reading w) ++ space ∷ x ++ lineFeed ∷ [] ++ y)
-      (ap ending (slot-decoded w) ∙ bare-ending (decodedAs n rows reading w)) (slot-lines words)
+      (ap ending (slot-decoded w) ∙ bare-says ending (λ c. refl) (λ c d. refl) (decodedAs n rows reading w)) (slot-lines words)
 
   slot-tally : (words : List ℕ) → slotTally (map (countOf n rows reading) words) ≡ tallyOf (map (decodedAs n rows reading) words)
   slot-tally words = tally-read (decodedAs n rows reading) (countOf n rows reading) slotOutcome slot-decoded words

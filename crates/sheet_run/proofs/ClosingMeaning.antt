@@ -1,20 +1,22 @@
 -- What the closing line means: its four numbers are those that the lines of the words show, and each word is counted once. Assumes nothing.
-use mathlib.Core.Path.{_≡_, refl, sym, ap, _∙_}
-use mathlib.Core.List.{List, [], _∷_, map, List-discrete}
-use Prim.Native.Nat.{ℕ, _+_}
+use mathlib.Core.Path.{_≡_, refl, sym, ap, ap₂, _∙_}
+use mathlib.Core.List.{List, [], _∷_, _++_, map, append-assoc, List-discrete}
+use Prim.Native.Nat.{ℕ, _+_, _-_}
 use native.Mathlib.Decide.{ℕ-discrete}
 use native.Mathlib.Omega.{arith}
-use lib.ListN.{length, length-map}
+use lib.ListN.{length, take, drop, length-map, length-append}
+use lib.Seq.{take-at, drop-at}
 use Rattle.words.specs.Accepted.{Accepted}
-use Rattle.outcomes.specs.Outcome.{decodedAs}
+use Rattle.outcomes.specs.Outcome.{wordIn, decodedAs}
 use Rattle.outcomes.specs.declared.ending.Reading.{Reading}
 use Rattle.outcomes.specs.declared.ending.Outcome.{Outcome}
 use Rattle.outcomes.specs.declared.ending.Outcome.the-variants.{Clean, Mended, Far}
 use Rattle.sheet_run.specs.Decimal.{decimal}
-use Rattle.sheet_run.specs.Text.{written}
+use Rattle.sheet_run.specs.Text.{written, space, lineFeed}
 use Rattle.sheet_run.specs.Closing.{tallyOf}
-use Rattle.sheet_run.specs.Output.{ending}
+use Rattle.sheet_run.specs.Output.{digitsOf, ending, wordLine}
 use Rattle.sheet_run.proofs.DecimalMeaning.{said, decimal-says}
+use Rattle.sheet_run.proofs.LineLaws.{length-digits}
 use Rattle.sheet_run.proofs.TallyLaws.{bare, Tells, tally-adds, tally-read}
 use Rattle.sheet_run.proofs.BatchLaws.{decoded-tells}
 
@@ -56,13 +58,31 @@ shown-ending o t = go o t (List-discrete ℕ-discrete (ending o) (written "far")
     go Far t (yes f) z = refl
     go Far t (no f) z = absurd (f refl)
 
+-- the ending of a word's line: what stands between the blank after its n digits and the line feed
+abbrev pub endingIn : ℕ → List ℕ → List ℕ
+endingIn n line = take (length line - (n + 2)) (drop (n + 1) line)
+
+line-ending : (n w : ℕ) (o : Outcome) → endingIn n (wordLine n w o) ≡ ending o
+unfolding wordLine
+line-ending n w o =
+    let front = digitsOf n (wordIn o w) ++ space ∷ [] in
+    let back = ending o ++ lineFeed ∷ [] in
+    let parts : wordLine n w o ≡ front ++ back = simp append-assoc in
+    let f : length front ≡ n + 1 = length-append (digitsOf n (wordIn o w)) (space ∷ []) ∙ omega (arith, length-digits n (wordIn o w)) in
+    let l : length (wordLine n w o) - (n + 2) ≡ length (ending o)
+    = omega (arith, ap length parts, length-append front back, f, length-append (ending o) (lineFeed ∷ [])) in
+    ap₂ (λ (m : ℕ) (x : List ℕ). take m x) l (ap (drop (n + 1)) parts ∙ drop-at front back (n + 1) f)
+    ∙ take-at (ending o) (lineFeed ∷ []) (length (ending o)) refl
+
 module _ (n k : ℕ) (rows : List ℕ) (A : Accepted n k rows) (reading : Reading) (words : List ℕ) where
-  -- the tally of what the lines of a batch show is the tally of its outcomes
+  -- the tally of what the lines of the words show is the tally of the outcomes
   pub closing-shows :
-      tallyOf (map shown (map (λ w. ending (decodedAs n rows reading w)) words)) ≡ tallyOf (map (decodedAs n rows reading) words)
+      tallyOf (map (λ line. shown (endingIn n line)) (map (λ w. wordLine n w (decodedAs n rows reading w)) words))
+      ≡ tallyOf (map (decodedAs n rows reading) words)
   closing-shows =
-      tally-read (decodedAs n rows reading) (λ w. ending (decodedAs n rows reading w)) shown
-      (λ w. shown-ending (decodedAs n rows reading w) (decoded-tells n k rows A reading w)) words
+      tally-read (decodedAs n rows reading) (λ w. wordLine n w (decodedAs n rows reading w)) (λ line. shown (endingIn n line))
+      (λ w. let o = decodedAs n rows reading w in
+      ap shown (line-ending n w o) ∙ shown-ending o (decoded-tells n k rows A reading w)) words
 
   -- clean, mended and far words add to the words received
   pub closing-adds : let t = tallyOf (map (decodedAs n rows reading) words) in t .clean + t .mended + t .far ≡ length words

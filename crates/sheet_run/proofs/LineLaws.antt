@@ -1,12 +1,10 @@
 -- Laws of the lines: the parts that the writers put, one after the other, are the line. Assumes nothing.
-use mathlib.Core.Path.{_≡_, refl, sym, ap, ap₂, _∙_}
+use mathlib.Core.Path.{_≡_, sym, ap, ap₂, _∙_}
 use mathlib.Core.List.{List, [], _∷_, _++_, append-assoc, append-nil}
 use Prim.Native.Nat.{ℕ, zero, suc, _+_, _-_, _/_, _<_}
 use native.Mathlib.Nat.{le-of-suc-le-suc}
 use native.Mathlib.Numerals.{add-one}
-use native.Mathlib.Decide.{ℕ-discrete}
 use native.Mathlib.Omega.{arith}
-use borrow.Author.Tests.{eq-eqb, ne-eqb}
 use lib.ListN.{length, getD, take}
 use lib.Seq.{take-length}
 use Rattle.coding.specs.Word.{bit}
@@ -33,14 +31,6 @@ code-parts n k d = simp append-assoc
 pub slot-parts : (n c count : ℕ) → digitsOf n c ++ space ∷ [] ++ ending (slotOutcome count) ++ lineFeed ∷ [] ≡ slotLine n c count
 unfolding slotLine
 slot-parts n c count = simp append-assoc
-
--- a slot that is not 255 ends in its count
-pub ending-count : (count : ℕ) → (count ≡ 255 → ⊥) → decimal count ≡ ending (slotOutcome count)
-ending-count count h = go (ℕ-discrete count 0)
-  where
-    go : Dec (count ≡ 0) → decimal count ≡ ending (slotOutcome count)
-    go (yes z) = rw (ne-eqb count 255 h, eq-eqb count 0 z) (ap decimal z)
-    go (no n) = rw (ne-eqb count 255 h, ne-eqb count 0 n) refl
 
 pub closing-parts : (t : Tally)
     → written "clean " ++ (decimal (t .clean) ++ space ∷ []) ++ (written "mended " ++ (decimal (t .mended) ++ space ∷ []))

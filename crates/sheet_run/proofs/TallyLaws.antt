@@ -1,5 +1,5 @@
 -- Laws of the tally: one word more, what the numbers add to, and how large they are. Assumes nothing.
-use mathlib.Core.Path.{_≡_, refl, sym, ap₂, _∙_}
+use mathlib.Core.Path.{_≡_, refl, sym, ap, ap₂, _∙_}
 use mathlib.Core.Bool.{Bool, true, false}
 use mathlib.Core.List.{List, [], _∷_, map}
 use Prim.Native.Nat.{ℕ, zero, suc, _+_, _-_, _*_, _≤_, _<_}
@@ -16,9 +16,21 @@ use Rattle.coding.specs.Lists.{total}
 use Rattle.outcomes.specs.Outcome.{countIn}
 use Rattle.outcomes.specs.declared.ending.Outcome.{Outcome}
 use Rattle.outcomes.specs.declared.ending.Outcome.the-variants.{Clean, Mended, Far}
-use Rattle.sheet_run.specs.Closing.{cleanIn, mendedIn, farIn, placesIn, tallyOf}
-use Rattle.sheet_run.specs.declared.tally.Tally.{Tally}
+use Rattle.sheet_run.specs.Closing.{adds, tallyOf}
 use Rattle.sheet_run.specs.Inner.Slots.{slotOutcome, slotTally}
+
+-- what one word adds to each number
+abbrev cleanIn : Outcome → ℕ
+cleanIn o = adds o .clean
+
+abbrev mendedIn : Outcome → ℕ
+mendedIn o = adds o .mended
+
+abbrev farIn : Outcome → ℕ
+farIn o = adds o .far
+
+abbrev placesIn : Outcome → ℕ
+placesIn o = adds o .places
 
 -- every word is counted once: the numbers of clean, mended and far words add to the number of words
 totals-add : (os : List Outcome) → total (map cleanIn os) + total (map mendedIn os) + total (map farIn os) ≡ length os
@@ -33,43 +45,37 @@ tally-adds os = totals-add os
 
 -- ---- the codewords do not count
 
--- an outcome without its codeword
+-- an outcome without its codeword, and what says nothing of the codeword
 abbrev pub bare : Outcome → Outcome
 bare (Clean c) = Clean 0
 bare (Mended c d) = Mended 0 d
 bare Far = Far
 
+pub bare-says : {A : Type 0} (f : Outcome → A) → ((c : ℕ) → f (Clean 0) ≡ f (Clean c)) → ((c d : ℕ) → f (Mended 0 d) ≡ f (Mended c d))
+    → (o : Outcome) → f (bare o) ≡ f o
+bare-says f clean mended (Clean c) = clean c
+bare-says f clean mended (Mended c d) = mended c d
+bare-says f clean mended Far = refl
+
 bare-total : (f : Outcome → ℕ) → ((o : Outcome) → f (bare o) ≡ f o) → (os : List Outcome) → total (map f (map bare os)) ≡ total (map f os)
 bare-total f same [] = refl
 bare-total f same (o ∷ os) = ap₂ _+_ (same o) (bare-total f same os)
 
-bare-clean : (o : Outcome) → cleanIn (bare o) ≡ cleanIn o
-bare-clean (Clean c) = refl
-bare-clean (Mended c d) = refl
-bare-clean Far = refl
-
-bare-mended : (o : Outcome) → mendedIn (bare o) ≡ mendedIn o
-bare-mended (Clean c) = refl
-bare-mended (Mended c d) = refl
-bare-mended Far = refl
-
-bare-far : (o : Outcome) → farIn (bare o) ≡ farIn o
-bare-far (Clean c) = refl
-bare-far (Mended c d) = refl
-bare-far Far = refl
-
-bare-places : (o : Outcome) → placesIn (bare o) ≡ placesIn o
-bare-places (Clean c) = refl
-bare-places (Mended c d) = refl
-bare-places Far = refl
-
--- what is told of each word lets the same tally be taken, if its outcome but for the codeword can be read from it
+-- whatever is told of each word: if its outcome can be read from it, but for the codeword, so can the tally
 pub tally-read : {A : Type 0} (outcome : ℕ → Outcome) (told : ℕ → A) (read : A → Outcome) → ((w : ℕ) → read (told w) ≡ bare (outcome w))
     → (words : List ℕ) → tallyOf (map read (map told words)) ≡ tallyOf (map outcome words)
 unfolding tallyOf
 tally-read {A} outcome told read same words =
-    let os = map outcome words in
-    rw (reads words, bare-total cleanIn bare-clean os, bare-total mendedIn bare-mended os, bare-total farIn bare-far os, bare-total placesIn bare-places os) refl
+    let sum : (f : Outcome → ℕ) → ((c : ℕ) → f (Clean 0) ≡ f (Clean c)) → ((c d : ℕ) → f (Mended 0 d) ≡ f (Mended c d))
+    → total (map f (map bare (map outcome words))) ≡ total (map f (map outcome words))
+    = λ f clean mended. bare-total f (bare-says f clean mended) (map outcome words) in
+    rw (
+      reads words,
+      sum cleanIn (λ c. refl) (λ c d. refl),
+      sum mendedIn (λ c. refl) (λ c d. refl),
+      sum farIn (λ c. refl) (λ c d. refl),
+      sum placesIn (λ c. refl) (λ c d. refl),
+    ) refl
   where
     reads : (ws : List ℕ) → map read (map told ws) ≡ map bare (map outcome ws)
     reads [] = refl
@@ -93,30 +99,27 @@ pub test-adds : (b : Bool) → boolByte b ≤ 1
 test-adds true = omega arith
 test-adds false = omega arith
 
-slot-clean : (count : ℕ) → boolByte (eqb count 0) ≡ cleanIn (slotOutcome count)
-slot-clean count = go (ℕ-discrete count 255) (ℕ-discrete count 0)
+slot-tests : (count : ℕ) → (boolByte (eqb count 0) ≡ cleanIn (slotOutcome count)) × (boolByte (eqb count 255) ≡ farIn (slotOutcome count))
+slot-tests count = go (ℕ-discrete count 255) (ℕ-discrete count 0)
   where
-    go : Dec (count ≡ 255) → Dec (count ≡ 0) → boolByte (eqb count 0) ≡ cleanIn (slotOutcome count)
+    go : Dec (count ≡ 255) → Dec (count ≡ 0)
+        → (boolByte (eqb count 0) ≡ cleanIn (slotOutcome count)) × (boolByte (eqb count 255) ≡ farIn (slotOutcome count))
     go (yes e) (yes z) = absurd (omega arith)
-    go (yes e) (no z) = rw (eq-eqb count 255 e, ne-eqb count 0 z) refl
-    go (no n) (yes z) = rw (ne-eqb count 255 n, eq-eqb count 0 z) refl
-    go (no n) (no z) = rw (ne-eqb count 255 n, ne-eqb count 0 z) refl
+    go (yes e) (no z) = rw (eq-eqb count 255 e, ne-eqb count 0 z) (refl, refl)
+    go (no n) (yes z) = rw (ne-eqb count 255 n, eq-eqb count 0 z) (refl, refl)
+    go (no n) (no z) = rw (ne-eqb count 255 n, ne-eqb count 0 z) (refl, refl)
 
-slot-far : (count : ℕ) → boolByte (eqb count 255) ≡ farIn (slotOutcome count)
-slot-far count = go (ℕ-discrete count 255) (ℕ-discrete count 0)
+-- a slot that is not 255 has its count
+pub slot-number : {A : Type 0} (f : Outcome → A) (g : ℕ → A) → g 0 ≡ f (Clean 0) → ((d : ℕ) → g d ≡ f (Mended 0 d))
+    → (count : ℕ) → (count ≡ 255 → ⊥) → g count ≡ f (slotOutcome count)
+slot-number {A} f g clean mended count n = go (ℕ-discrete count 0)
   where
-    go : Dec (count ≡ 255) → Dec (count ≡ 0) → boolByte (eqb count 255) ≡ farIn (slotOutcome count)
-    go (yes e) z = rw (eq-eqb count 255 e) refl
-    go (no n) (yes z) = rw (ne-eqb count 255 n, eq-eqb count 0 z) refl
-    go (no n) (no z) = rw (ne-eqb count 255 n, ne-eqb count 0 z) refl
+    go : Dec (count ≡ 0) → g count ≡ f (slotOutcome count)
+    go (yes z) = rw (ne-eqb count 255 n, eq-eqb count 0 z) (ap g z ∙ clean)
+    go (no z) = rw (ne-eqb count 255 n, ne-eqb count 0 z) (mended count)
 
--- the places of a slot are its count, or none
 pub slot-count : (count : ℕ) → (count ≡ 255 → ⊥) → count ≡ placesIn (slotOutcome count)
-slot-count count n = go (ℕ-discrete count 0)
-  where
-    go : Dec (count ≡ 0) → count ≡ placesIn (slotOutcome count)
-    go (yes z) = rw (ne-eqb count 255 n, eq-eqb count 0 z) z
-    go (no z) = rw (ne-eqb count 255 n, ne-eqb count 0 z) refl
+slot-count count n = slot-number placesIn (λ d. d) refl (λ d. refl) count n
 
 slot-places : (count : ℕ) → placesIn (slotOutcome count) ≤ count
 slot-places count = go (ℕ-discrete count 255)
@@ -158,8 +161,8 @@ module _ {counts : List ℕ} {i clean far places : ℕ} (C : Counting counts i c
       let c = getD counts i 0 in
       rw add-one (record {
         within = h;
-        cleans = ap₂ _+_ (C .cleans) (slot-clean c) ∙ sym (sum-more cleanIn counts i h);
-        fars = ap₂ _+_ (C .fars) (slot-far c) ∙ sym (sum-more farIn counts i h);
+        cleans = ap₂ _+_ (C .cleans) (slot-tests c .0) ∙ sym (sum-more cleanIn counts i h);
+        fars = ap₂ _+_ (C .fars) (slot-tests c .1) ∙ sym (sum-more farIn counts i h);
         sum = ap₂ _+_ (C .sum) e ∙ sym (sum-more placesIn counts i h);
       })
 

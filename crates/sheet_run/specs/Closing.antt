@@ -8,35 +8,19 @@ use Rattle.sheet_run.specs.Decimal.{decimal}
 use Rattle.sheet_run.specs.Text.{written, lineFeed}
 use Rattle.sheet_run.specs.declared.tally.Tally.{Tally}
 
--- what one word adds to each of the four numbers: 1 to the number of its outcome
-abbrev pub cleanIn : Outcome → ℕ
-cleanIn (Clean c) = 1
-cleanIn (Mended c count) = 0
-cleanIn Far = 0
-
-abbrev pub mendedIn : Outcome → ℕ
-mendedIn (Clean c) = 0
-mendedIn (Mended c count) = 1
-mendedIn Far = 0
-
-abbrev pub farIn : Outcome → ℕ
-farIn (Clean c) = 0
-farIn (Mended c count) = 0
-farIn Far = 1
-
--- and to the places its count if it is mended
-abbrev pub placesIn : Outcome → ℕ
-placesIn (Clean c) = 0
-placesIn (Mended c count) = count
-placesIn Far = 0
+-- what one word adds to the four numbers: 1 to that of its outcome, and its count to the places if it is mended
+abbrev pub adds : Outcome → Tally
+adds (Clean c) = record { clean = 1; mended = 0; far = 0; places = 0 }
+adds (Mended c count) = record { clean = 0; mended = 1; far = 0; places = count }
+adds Far = record { clean = 0; mended = 0; far = 1; places = 0 }
 
 -- how many words ended as clean, mended and far, and the sum of the counts of the mended ones
 unfoldable pub tallyOf : List Outcome → Tally
 tallyOf outcomes = record {
-  clean = total (map cleanIn outcomes);
-  mended = total (map mendedIn outcomes);
-  far = total (map farIn outcomes);
-  places = total (map placesIn outcomes);
+  clean = total (map (λ o. adds o .clean) outcomes);
+  mended = total (map (λ o. adds o .mended) outcomes);
+  far = total (map (λ o. adds o .far) outcomes);
+  places = total (map (λ o. adds o .places) outcomes);
 }
 
 -- "clean C mended M far F places P"

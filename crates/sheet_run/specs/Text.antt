@@ -1,4 +1,4 @@
--- Characters of the output, as bytes.
+-- Texts of the output, as bytes.
 use mathlib.Core.List.{List, [], _∷_}
 use Prim.Native.Nat.{ℕ}
 use Prim.Native.Char.{code}

@@ -3,7 +3,7 @@ ghost use mathlib.Core.Path.{_≡_};
 ghost use Prim.Native.Nat.{_≤_};
 ghost use lib.ListN.{length};
 ghost use Rattle.words.specs.Limits.{maxWords};
-ghost use Rattle.sheet_run.specs.Closing.{placesIn};
+ghost use Rattle.sheet_run.specs.Closing.{adds};
 ghost use Rattle.sheet_run.specs.Inner.Slots.{slotOutcome, slotTally};
 
 // The count of a far word.
@@ -19,7 +19,7 @@ pub(crate) struct Tally {
 
 // The places that a word adds: none where it is far.
 fn places_in(count: u8) -> u32
-    ensures { λ r. ⌜ r ≡ placesIn (slotOutcome count) ⌝ }
+    ensures { λ r. ⌜ r ≡ adds (slotOutcome count) .places ⌝ }
 {
     if count == FAR {
         return 0;

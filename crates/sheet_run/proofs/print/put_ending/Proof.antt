@@ -1,12 +1,14 @@
 -- `sheet_run::print::put_ending`: 255 means far. Assumes nothing.
+use mathlib.Core.Path.{refl}
 use Prim.Native.Nat.{_≤_}
 use native.Mathlib.Omega.{arith}
 use lib.ListN.{length}
 use borrow.Author.Tests.{eq-eqb}
 use Rattle.sheet_run.specs.Decimal.{decimal}
+use Rattle.sheet_run.specs.Output.{ending}
 use Rattle.sheet_run.proofs.AppendLaws.{appends-as}
 use Rattle.sheet_run.proofs.DecimalLaws.{decimal-byte}
-use Rattle.sheet_run.proofs.LineLaws.{ending-count}
+use Rattle.sheet_run.proofs.TallyLaws.{slot-number}
 use borrow.Author.Needs.{needs}
 use Rattle.sheet_run.proofs.print.put_ending.Statement.{statement}
 use Rattle.sheet_run.proofs.print.put_ending.Tie as tie
@@ -25,7 +27,7 @@ returns-2 : tie.Need-returns-2
 returns-2 c =
     let d = c .before .before in
     let e = d .before .before in
-    (appends-as (d .put-decimal .ensures) _ (ending-count _ (e .if1 .left)), omega (arith, few e))
+    (appends-as (d .put-decimal .ensures) _ (slot-number ending decimal refl (λ d. refl) _ (e .if1 .left)), omega (arith, few e))
 
 pub put-ending-spec : {M : Type 1} → statement M
 put-ending-spec =

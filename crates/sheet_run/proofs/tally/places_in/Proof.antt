@@ -1,5 +1,4 @@
 -- `sheet_run::tally::places_in`: by cases on the slot. Assumes nothing.
-use borrow.Author.Needs.{needs}
 use borrow.Author.Tests.{eq-eqb}
 use Rattle.sheet_run.proofs.TallyLaws.{slot-count}
 use Rattle.sheet_run.proofs.tally.places_in.Statement.{statement}
