@@ -29,7 +29,7 @@ shownBy e (no f) (no z) = Mended 0 (said 0 e)
 abbrev pub shown : List ℕ → Outcome
 shown e = shownBy e (List-discrete ℕ-discrete e (written "far")) (List-discrete ℕ-discrete e (written "0"))
 
--- no number is written "far", and only 0 is written "0"
+-- no number is written "far": taken for digits it would say 5956, which has four; and only 0 is written "0"
 decimal-not-far : (x : ℕ) → decimal x ≡ written "far" → ⊥
 unfolding decimal
 decimal-not-far x e =

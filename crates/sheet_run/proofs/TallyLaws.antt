@@ -99,6 +99,7 @@ pub test-adds : (b : Bool) → boolByte b ≤ 1
 test-adds true = omega arith
 test-adds false = omega arith
 
+-- what the tests on a slot add
 slot-tests : (count : ℕ) → (boolByte (eqb count 0) ≡ cleanIn (slotOutcome count)) × (boolByte (eqb count 255) ≡ farIn (slotOutcome count))
 slot-tests count = go (ℕ-discrete count 255) (ℕ-discrete count 0)
   where
@@ -118,6 +119,7 @@ slot-number {A} f g clean mended count n = go (ℕ-discrete count 0)
     go (yes z) = rw (ne-eqb count 255 n, eq-eqb count 0 z) (ap g z ∙ clean)
     go (no z) = rw (ne-eqb count 255 n, ne-eqb count 0 z) (mended count)
 
+-- its places are that count
 pub slot-count : (count : ℕ) → (count ≡ 255 → ⊥) → count ≡ placesIn (slotOutcome count)
 slot-count count n = slot-number placesIn (λ d. d) refl (λ d. refl) count n
 
@@ -140,6 +142,7 @@ sum-more f [] i h = absurd (omega arith)
 sum-more f (c ∷ counts) zero h = omega arith
 sum-more f (c ∷ counts) (suc i) h = omega (arith, sum-more f counts i (le-of-suc-le-suc h))
 
+-- a slot has at most 255 places
 places-few : (counts : List ℕ) (i : ℕ) → ((j : ℕ) → getD counts j 0 < 256) → sumTo placesIn counts i ≤ 255 * i
 places-few counts zero h = omega arith
 places-few [] (suc i) h = omega arith

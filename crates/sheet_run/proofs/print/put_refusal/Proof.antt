@@ -5,9 +5,19 @@ use borrow.Author.Needs.{needs}
 use Rattle.sheet_run.proofs.print.put_refusal.Statement.{statement}
 use Rattle.sheet_run.proofs.print.put_refusal.Tie as tie
 
+-- the parts put so far, the last first
+abbrev number : tie.After-put-number → tie.After-put-named
+number c = c .before .before .before .before
+
+abbrev start : tie.After-put-named → tie.Start
+start c = c .before .before .before .before
+
+returns : tie.Need-returns
+returns c =
+    let v = c .before .before in
+    let n = number v in
+    let a = start n .args in
+    appends-as (then (n .put-named .ensures .0) (v .put-number .ensures .0)) _ (refused-parts (a .number) (a .value))
+
 pub put-refusal-spec : {M : Type 1} → statement M
-put-refusal-spec = tie.close (tie.spec (λ c. search needs) (λ c κs. search needs) (λ c κs. search needs) (λ c. search needs)
-    (λ c. let v = c .before .before in
-    let n = v .before .before .before .before in
-    let a = n .before .before .before .before .args in
-    appends-as (then (n .put-named .ensures .0) (v .put-number .ensures .0)) _ (refused-parts (a .number) (a .value))))
+put-refusal-spec = tie.close (tie.spec (λ c. search needs) (λ c κs. search needs) (λ c κs. search needs) (λ c. search needs) returns)
