@@ -233,7 +233,14 @@ def mixed():
     for i in range(40):
         case('bytes', bytes(rng.choice([0, 0, 0, 1, 1, 2, 3, 4, 5, 6]) for _ in range(rng.randrange(1, 24))))
 
-for group in (worked, cut, changed, layout, ranges, causes, mixed, large):
+def tallies():
+    """Closing lines of 512 words that end alike, and with the most places that a batch can have mended."""
+    case('512 clean words', sheet(6, 3, ROWS, [0x31, 0x2A, 0x1C, 0] * 128))
+    case('512 far words', sheet(6, 3, ROWS, [0x23] * 512, 1))
+    case('511 far words, then a clean one', sheet(6, 3, ROWS, [0x23] * 511 + [0x1C], 1))
+    case('512 words, 12 places mended in each', sheet(13, 1, [1], [0x1FFE, 0x1FFF] * 256))
+
+for group in (worked, cut, changed, layout, ranges, causes, mixed, large, tallies):
     group()
 
 def main():
