@@ -2,7 +2,8 @@
 use mathlib.Core.Path.{sym, _∙_}
 use native.Mathlib.Omega.{arith}
 use Rattle.sheet_run.proofs.AppendLaws.{appends-as}
-use Rattle.sheet_run.proofs.BatchLaws.{refused-output, done-output, few-words, few-places, apart, codewords-length, codewords-room, counts-length, counts-room}
+use Rattle.sheet_run.proofs.BatchLaws.{refused-output, done-output, few-words, few-places, apart}
+use Rattle.sheet_run.proofs.BatchLaws.{codewords-length, codewords-room, counts-length, counts-room}
 use borrow.Author.Needs.{needs}
 use Rattle.sheet_run.proofs.runner.run_batch.Statement.{statement}
 use Rattle.sheet_run.proofs.runner.run_batch.Tie as tie
