@@ -17,7 +17,7 @@ use Rattle.sheet_run.specs.Closing.{tallyOf}
 use Rattle.sheet_run.specs.Output.{digitsOf, ending, wordLine}
 use Rattle.sheet_run.proofs.DecimalMeaning.{said, decimal-says}
 use Rattle.sheet_run.proofs.LineLaws.{length-digits}
-use Rattle.sheet_run.proofs.TallyLaws.{bare, Tells, tally-adds, tally-read}
+use Rattle.sheet_run.proofs.TallyLaws.{totals-add, bare, Tells, tally-read}
 use Rattle.sheet_run.proofs.BatchLaws.{decoded-tells}
 
 -- the outcome that the ending of a line shows: "far", "0", or else the number that its digits say
@@ -74,16 +74,17 @@ line-ending n w o =
     ap₂ (λ (m : ℕ) (x : List ℕ). take m x) l (ap (drop (n + 1)) parts ∙ drop-at front back (n + 1) f)
     ∙ take-at (ending o) (lineFeed ∷ []) (length (ending o)) refl
 
-module _ (n k : ℕ) (rows : List ℕ) (A : Accepted n k rows) (reading : Reading) (words : List ℕ) where
-  -- the tally of what the lines of the words show is the tally of the outcomes
-  pub closing-shows :
-      tallyOf (map (λ line. shown (endingIn n line)) (map (λ w. wordLine n w (decodedAs n rows reading w)) words))
-      ≡ tallyOf (map (decodedAs n rows reading) words)
-  closing-shows =
-      tally-read (decodedAs n rows reading) (λ w. wordLine n w (decodedAs n rows reading w)) (λ line. shown (endingIn n line))
-      (λ w. let o = decodedAs n rows reading w in
-      ap shown (line-ending n w o) ∙ shown-ending o (decoded-tells n k rows A reading w)) words
+-- the tally of what the lines of the words show is the tally of the outcomes
+pub closing-shows : (n k : ℕ) (rows : List ℕ) → Accepted n k rows → (reading : Reading) (words : List ℕ)
+    → tallyOf (map (λ line. shown (endingIn n line)) (map (λ w. wordLine n w (decodedAs n rows reading w)) words))
+    ≡ tallyOf (map (decodedAs n rows reading) words)
+closing-shows n k rows A reading words =
+    tally-read (decodedAs n rows reading) (λ w. wordLine n w (decodedAs n rows reading w)) (λ line. shown (endingIn n line))
+    (λ w. let o = decodedAs n rows reading w in
+    ap shown (line-ending n w o) ∙ shown-ending o (decoded-tells n k rows A reading w)) words
 
-  -- clean, mended and far words add to the words received
-  pub closing-adds : let t = tallyOf (map (decodedAs n rows reading) words) in t .clean + t .mended + t .far ≡ length words
-  closing-adds = tally-adds (map (decodedAs n rows reading) words) ∙ length-map words (decodedAs n rows reading)
+-- clean, mended and far words add to the words received
+pub closing-adds : (outcome : ℕ → Outcome) (words : List ℕ)
+    → let t = tallyOf (map outcome words) in t .clean + t .mended + t .far ≡ length words
+unfolding tallyOf
+closing-adds outcome words = totals-add (map outcome words) ∙ length-map words outcome

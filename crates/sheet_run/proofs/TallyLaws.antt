@@ -33,15 +33,11 @@ abbrev placesIn : Outcome → ℕ
 placesIn o = adds o .places
 
 -- every word is counted once: the numbers of clean, mended and far words add to the number of words
-totals-add : (os : List Outcome) → total (map cleanIn os) + total (map mendedIn os) + total (map farIn os) ≡ length os
+pub totals-add : (os : List Outcome) → total (map cleanIn os) + total (map mendedIn os) + total (map farIn os) ≡ length os
 totals-add [] = refl
 totals-add (Clean c ∷ os) = omega (arith, totals-add os)
 totals-add (Mended c d ∷ os) = omega (arith, totals-add os)
 totals-add (Far ∷ os) = omega (arith, totals-add os)
-
-pub tally-adds : (os : List Outcome) → tallyOf os .clean + tallyOf os .mended + tallyOf os .far ≡ length os
-unfolding tallyOf
-tally-adds os = totals-add os
 
 -- ---- the codewords do not count
 
