@@ -38,13 +38,10 @@ void set_words(bool all)
     in.count = all ? in.prepared : 0;
 }
 
-/* The lightest codeword may be any of its weight. */
 bool same(void)
 {
-    bool light = __builtin_popcount(ours.lightest) == __builtin_popcount(theirs.lightest);
     bool done = ours.number == 0 && memcmp(ours.out, "refused", 7) != 0;
-    theirs.lightest = ours.lightest;
-    return done && light && memcmp(&ours, &theirs, sizeof ours) == 0;
+    return done && memcmp(&ours, &theirs, sizeof ours) == 0;
 }
 
 /* Random rows that are independent: the identity on the first k places, and rows added to rows. */
@@ -286,7 +283,9 @@ static void run_plain(void) { theirs.length = plain_run(in.sheet, in.sheet_len, 
 const Case cases[] = {
     DESCRIBE_CASE("random (7,4)", small_code),
     DESCRIBE_CASE("random (23,12)", middle_code),
+    DESCRIBE_CASE("perfect (23,12)", perfect_code),
     DESCRIBE_CASE("dense (28,16)", dense_code),
+    DESCRIBE_CASE("single places (28,16)", worst_code),
     LEADERS_CASE("dense (28,16)", dense_code),
     LEADERS_CASE("worst (28,16)", worst_code),
     {"Words, perfect (23,12)", "encode", "row sums", messages, encode_ours, encode_plain, {0}, WORDS, false, true},

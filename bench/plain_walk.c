@@ -12,7 +12,7 @@ void gray_walk(uint32_t k, const uint32_t *rows, uint32_t counts[33], uint32_t *
         w ^= rows[__builtin_ctz(u)];
         unsigned x = ones(w);
         counts[x]++;
-        if (x < d) {
+        if (x < d || (x == d && w < best)) {
             d = x;
             best = w;
         }
@@ -43,9 +43,18 @@ static uint32_t fill_block(uint32_t k, const uint32_t *rows, uint32_t *block)
     return b;
 }
 
+/* The smallest word of this weight in a block with base added, or best. */
+static uint32_t smallest(const uint32_t *block, const uint32_t *weights, uint32_t size, uint32_t base, uint32_t weight, uint32_t best)
+{
+    for (uint32_t j = 0; j < size; j++)
+        if (weights[j] == weight && (block[j] ^ base) < best)
+            best = block[j] ^ base;
+    return best;
+}
+
 void block_walk(uint32_t k, const uint32_t *rows, uint32_t counts[33], uint32_t *dmin, uint32_t *lightest)
 {
-    uint32_t block[BLOCK], weights[BLOCK], base = 0, b = fill_block(k, rows, block), size = 1u << b;
+    uint32_t block[BLOCK], weights[BLOCK], base = 0, b = fill_block(k, rows, block), size = 1u << b, met = 0;
     *dmin = 33;
     for (uint32_t h = 0; h < 1u << (k - b); h++) {
         if (h)
@@ -58,11 +67,13 @@ void block_walk(uint32_t k, const uint32_t *rows, uint32_t counts[33], uint32_t 
         while (least < *dmin && !counts[least])
             least++;
         if (least < *dmin) {
-            uint32_t j = 0;
-            while (weights[j] != least)
-                j++;
             *dmin = least;
-            *lightest = block[j] ^ base;
+            *lightest = UINT32_MAX;
+            met = 0;
+        }
+        if (counts[least] != met) {
+            *lightest = smallest(block, weights, size, base, least, *lightest);
+            met = counts[least];
         }
     }
 }

@@ -19,7 +19,9 @@ static void describe(void)
     size_t value;
     if (relay_describe(6, 3, rows, 3, reduced, checks, counts, &dmin, &lightest, &value) != RELAY_DONE)
         return;
-    printf("minimum distance %" PRIu32 ", reduced rows", dmin);
+    printf("minimum distance %" PRIu32 ", lightest codeword ", dmin);
+    print_word(6, lightest);
+    printf(", reduced rows");
     for (int i = 0; i < 3; i++) {
         putchar(' ');
         print_word(6, reduced[i]);

@@ -31,7 +31,7 @@ extern "C" {
 
 /* The version of this header. */
 #define RELAY_VERSION_MAJOR 0
-#define RELAY_VERSION_MINOR 4
+#define RELAY_VERSION_MINOR 5
 #define RELAY_VERSION_PATCH 0
 #define RELAY_VERSION (10000 * RELAY_VERSION_MAJOR + 100 * RELAY_VERSION_MINOR + RELAY_VERSION_PATCH)
 
@@ -73,7 +73,8 @@ enum {
 
 /* What the code of a matrix is. Causes 1 to 4.
  * Written: the k reduced rows, the n - k parity-check rows and how many codewords there are of each weight 0 to n, each list 0
- * after these; the minimum distance; and a codeword of that weight. On a refusal all of them become 0.
+ * after these; the minimum distance; and the lightest codeword, the smallest number among the nonzero codewords of that weight,
+ * which is the same for every matrix of the code. On a refusal all of them become 0.
  * Stack: about 5 kB. */
 uint32_t relay_describe(uint32_t n, uint32_t k, const uint32_t *rows, size_t rows_len,
                         uint32_t reduced[RELAY_MAX_ROWS], uint32_t checks[RELAY_MAX_CHECKS], uint32_t weight_counts[RELAY_WEIGHTS],

@@ -114,6 +114,18 @@ static void readings(void)
     HOLDS(counts[0] == 2 && out[0] == 0x2A && counts[1] == 1 && out[1] == 0x1B);
 }
 
+/* One code by two matrices has one lightest codeword. */
+static void lightest(void)
+{
+    const uint32_t first[2] = {0x1D, 0x16}, second[2] = {0x1D, 0x0B};
+    uint32_t reduced[RELAY_MAX_ROWS], checks[RELAY_MAX_CHECKS], weights[RELAY_WEIGHTS], dmin, found;
+    size_t value;
+    HOLDS(relay_describe(5, 2, first, 2, reduced, checks, weights, &dmin, &found, &value) == RELAY_DONE);
+    HOLDS(dmin == 3 && weights[3] == 2 && found == 0x0B);
+    HOLDS(relay_describe(5, 2, second, 2, reduced, checks, weights, &dmin, &found, &value) == RELAY_DONE);
+    HOLDS(dmin == 3 && weights[3] == 2 && found == 0x0B);
+}
+
 /* The largest code: lists of the stated sizes are long enough, and written to their end and no further. */
 static void sizes(void)
 {
@@ -143,6 +155,7 @@ int main(void)
     causes();
     sheets();
     readings();
+    lightest();
     sizes();
     return failed;
 }

@@ -1,7 +1,7 @@
 """Words, reduced rows, check rows, Encode and Message, and their causes."""
 from codes import first_dependent, in_range, matrix_cause, pivots, reduced, row_sum, weight, word
 from named_codes import FALLING, GAPS, HAMMING, LARGE, MAX, ONES_13, series
-from records import (NEAREST, accept, bit, checks_call, decoded, describe, encoded, inside, lightest_call, numbers, read, reduced_call,
+from records import (NEAREST, accept, bit, checks_call, decoded, describe, encoded, inside, numbers, read, reduced_call,
                      row_sum_call, title, weights_call)
 
 
@@ -89,7 +89,6 @@ def every(n, k, rows, cause=None):
     describe(n, k, rows)
     if matrix_cause(n, k, rows):
         weights_call(n, k, rows)
-        lightest_call(n, k, rows)
     encoded(n, k, rows, [0], 2)
     read(n, k, rows, [0], 2)
     decoded(n, k, rows, NEAREST, [0])

@@ -2,10 +2,10 @@
 from collections import Counter
 from math import comb
 
-from codes import check_rows, codewords, lightest, reduced, row_sum, weight, weight_counts, word
+from codes import check_rows, codewords, lightest, nonzero, reduced, row_sum, weight, weight_counts, word
 from fixed_codes import GOLAY_ROWS
-from named_codes import BCH, GOLAY, HAMMING, HAMMING_15, LARGE, ONES_13, extended, polynomial, reed_muller, simplex
-from records import describe, lightest_call, title, weights_call
+from named_codes import BCH, FIVE, GOLAY, HAMMING, HAMMING_15, LARGE, ONES_13, SHEET, extended, polynomial, reed_muller, series, simplex
+from records import describe, title, weights_call
 
 
 # ---- weights
@@ -40,8 +40,6 @@ def described(name, n, k, rows, table=None):
     assert table is None or {j: c for j, c in enumerate(weight_counts(codewords(rows))) if c} == table
     describe(n, k, rows)
     weights_call(n, k, rows)
-    if len(lightest(rows)) == 1:
-        lightest_call(n, k, rows)
 
 
 def published_weights():
@@ -73,7 +71,37 @@ def no_row():
     ten = 1897418, 3631187, 2347856, 3593944, 3876421, 3276667, 1953078, 1895123, 2130041, 3067495
     for n, rows, chosen in ((10, three, (0, 1)), (22, ten, (1, 4, 8, 9))):
         described('lightest codeword no row', n, len(rows), rows)
-        assert lightest(rows) == [row_sum(rows, sum(1 << i for i in chosen))] and lightest(rows)[0] not in rows
+        assert lightest(rows) == row_sum(rows, sum(1 << i for i in chosen)) and lightest(rows) not in rows
+
+
+def mixed(rows, seed):
+    """Another matrix of the code: rows exchanged, and rows added to rows."""
+    out = list(rows)
+    for x in series(8 * len(rows), seed):
+        a, b = (x >> 8) % len(rows), (x >> 20) % len(rows)
+        if x >> 31:
+            out[a], out[b] = out[b], out[a]
+        elif a != b:
+            out[a] ^= out[b]
+    return tuple(out)
+
+
+def one_code():
+    """02, No. 2: one lightest codeword, whatever rows were typed; the first met is often another."""
+    others = 0
+    for name, n, rows, found in (
+            ('(5,2)', 5, FIVE, word('11010')), ('(7,4)', 7, HAMMING, word('1101000')), ('(6,3)', 6, SHEET, word('111000')),
+            ('Hamming', 15, HAMMING_15, 0x13), ('BCH', 15, BCH, 0x1D1), ('Golay', 23, GOLAY, 0xAE3),
+            ('extended Golay', 24, GOLAY_ROWS, 0x1B71), ('Reed-Muller', 16, reed_muller(4), 0xFF), ('(28,16)', 28, LARGE, 0x21800),
+            ('(13,1)', 13, ONES_13, 2**13 - 1), ('dmin 1', 28, tuple(2**(27 - i) for i in range(16)), 2**12)):
+        title(f'one code: {name}')
+        typed = rows, tuple(reversed(rows)), *(mixed(rows, seed) for seed in range(4))
+        for m in typed + ((word('10111'), word('11010')),) * (rows == FIVE):
+            assert set(codewords(m)) == set(codewords(rows)) and lightest(m) == found
+            describe(n, len(m), m)
+            weights_call(n, len(m), m)
+            others += next(w for w in nonzero(m) if weight(w) == weight(found)) != found
+    assert others > 30
 
 
 def krawtchouk(n, j, i):

@@ -1,4 +1,4 @@
-"""Binary linear block codes as document 01, the specification, defines them, by walks over all codewords and all words.
+"""Binary linear block codes as document 01, the specification, and 02's requests define them, by walks over all codewords and words.
 
 A word is the number whose bit i is place i. A cause is a pair of its number and the value beside it, or None. Rows are a tuple.
 """
@@ -43,8 +43,9 @@ def dmin(rows):
 
 
 def lightest(rows):
+    """02, No. 2: the smallest number among the nonzero codewords of weight dmin."""
     d = dmin(rows)
-    return [w for w in nonzero(rows) if weight(w) == d]
+    return min(w for w in nonzero(rows) if weight(w) == d)
 
 
 def weight_counts(words):

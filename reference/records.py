@@ -24,7 +24,7 @@ def title(text):
 
 
 OPERATIONS = {'sum': 1, 'weight': 2, 'distance': 3, 'parity': 4, 'place': 5, 'selected': 6, 'fits': 7, 'in range': 8,
-              'accept': 10, 'reduced': 11, 'checks': 12, 'row sum': 13, 'weights': 14, 'lightest': 15, 'describe': 16,
+              'accept': 10, 'reduced': 11, 'checks': 12, 'row sum': 13, 'weights': 14, 'describe': 15,
               'encode': 20, 'message': 21, 'nearest': 22, 'within': 23, 'again': 24,
               'Golay encode': 30, 'Golay decode': 31, 'Golay message': 32, 'Golay messages': 33, 'Golay patterns': 34,
               '(72,64) encode': 40, '(72,64) decode': 41, '(72,64) counts': 42, '(72,64) changes': 43}
@@ -78,6 +78,11 @@ def accept(n, k, rows):
     record('accept', n, k, 0, rows, (), said(matrix_cause(n, k, rows)))
 
 
+def distance_part(n, k, rows):
+    """The minimum distance and the lightest codeword."""
+    return items((0, 0) if matrix_cause(n, k, rows) else (dmin(rows), lightest(rows)))
+
+
 def rows_part(n, k, rows):
     return ', rows' + items(padded([] if matrix_cause(n, k, rows) else reduced(rows), 16))
 
@@ -107,24 +112,14 @@ def row_sum_call(rows, x):
 
 def weights_call(n, k, rows):
     c = matrix_cause(n, k, rows)
-    d = 0 if c else dmin(rows)
-    record('weights', n, k, 0, rows, (), f'{said(c)} {d} {d}' + weights_part(n, k, rows))
-
-
-def lightest_call(n, k, rows):
-    """Only where one codeword is the lightest, or the matrix is refused."""
-    found = [0] if matrix_cause(n, k, rows) else lightest(rows)
-    assert len(found) == 1
-    record('lightest', n, k, 0, rows, (), f' {found[0]}')
+    record('weights', n, k, 0, rows, (), said(c) + distance_part(n, k, rows) + weights_part(n, k, rows))
 
 
 def describe(n, k, rows):
-    """Of the lightest codeword, which may be any of several, the weight and the syndrome are printed."""
     c = matrix_cause(n, k, rows)
-    d = 0 if c else dmin(rows)
     assert c or sum(weight_counts(codewords(rows))) == 2**k
-    parts = (part(n, k, rows) for part in (rows_part, checks_part, weights_part))
-    record('describe', n, k, 0, rows, (), f'{said(c)} {d} {d} 0' + ''.join(parts))
+    parts = (part(n, k, rows) for part in (distance_part, rows_part, checks_part, weights_part))
+    record('describe', n, k, 0, rows, (), said(c) + ''.join(parts))
 
 
 # ---- operations on a batch of words

@@ -1,16 +1,16 @@
 #!/usr/bin/env python3
-"""The records of crates/vectors (argument "stdin") and what the program prints for them, from document 01, the specification,
-alone (codes.py and fixed_codes.py)."""
+"""The records of crates/vectors (argument "stdin") and what the program prints for them, from document 01, the specification, and
+the requests of 02 alone (codes.py and fixed_codes.py)."""
 import sys
 
 from cases_decode import by_chance, decode_refusals, lent_lists, mixed_decode, published_codes, small_codes, worked
 from cases_fixed import golay, golay_patterns, hsiao, hsiao_changes
 from cases_linear import batches, hamming, large, matrices, mixed_batches, ranges, word_cases
-from cases_weights import duals, no_row, published_weights
+from cases_weights import duals, no_row, one_code, published_weights
 from records import LINES, RECORDS, written
 
-for group in (word_cases, hamming, large, ranges, matrices, batches, mixed_batches, published_weights, no_row, duals, worked, lent_lists,
-              decode_refusals, mixed_decode, small_codes, published_codes, by_chance, golay, golay_patterns, hsiao, hsiao_changes):
+for group in (word_cases, hamming, large, ranges, matrices, batches, mixed_batches, published_weights, no_row, one_code, duals, worked,
+              lent_lists, decode_refusals, mixed_decode, small_codes, published_codes, by_chance, golay, golay_patterns, hsiao, hsiao_changes):
     group()
 written('\n' + '-' * 14 + '\n', 0)
 

@@ -53,7 +53,7 @@ use outcome::front;
 
 /// The version of the library that this crate is written for: 10,000 times the major number, 100 times the minor one, and the
 /// patch.
-pub const VERSION: u32 = 400;
+pub const VERSION: u32 = 500;
 
 /// The most places of a word, n.
 pub const MAX_PLACES: u32 = 28;
@@ -104,7 +104,7 @@ pub struct Description {
     pub weight_counts: [u32; WEIGHTS],
     /// The minimum distance.
     pub dmin: u32,
-    /// A codeword of that weight.
+    /// The lightest codeword: the smallest number among the nonzero codewords of that weight, whatever rows the code was given by.
     pub lightest: u32,
 }
 

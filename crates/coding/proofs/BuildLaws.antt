@@ -19,7 +19,8 @@ use borrow.Author.Tests.{eq-eqb, ne-eqb, eqb-true}
 use Rattle.coding.specs.Word.{weight}
 use Rattle.coding.specs.Matrix.{Inside}
 use Rattle.coding.specs.Check.{frees}
-use Rattle.coding.specs.Leader.{syndromeOf, noLeader, orNoLeader, having, leaderOf}
+use Rattle.coding.specs.Leader.{syndromeOf, noLeader, having, leaderOf}
+use Rattle.coding.specs.Lightest.{orElse}
 use Rattle.coding.specs.Weight.{count}
 use Rattle.coding.specs.Order.{words, order, fill, fills, blanks}
 use Rattle.coding.specs.Inner.Blanks.{blankCount}
@@ -64,22 +65,22 @@ fills-length syn [] L = refl
 fills-length syn (w ∷ ws) L = fills-length syn ws (fill syn L w) ∙ fill-length syn L w
 
 pub fills-first : (syn : ℕ → ℕ) (ws L : List ℕ) (s : ℕ) → All (λ w. w ≢ noLeader) ws → s < length L → getD L s 0 ≡ noLeader
-    → getD (fills syn L ws) s 0 ≡ orNoLeader (firstIn (having syn s) ws)
+    → getD (fills syn L ws) s 0 ≡ orElse noLeader (firstIn (having syn s) ws)
 fills-first syn [] L s a h z = z
 fills-first syn (w ∷ ws) L s (b, a) h z =
     go (ℕ-discrete (syn w) s) (fills-kept syn ws (fill syn L w) s) (fills-first syn ws (fill syn L w) s a (rw (fill-length syn L w) h))
   where
     go : Dec (syn w ≡ s) → (getD (fill syn L w) s 0 ≢ noLeader → getD (fills syn (fill syn L w) ws) s 0 ≡ getD (fill syn L w) s 0)
-        → (getD (fill syn L w) s 0 ≡ noLeader → getD (fills syn (fill syn L w) ws) s 0 ≡ orNoLeader (firstIn (having syn s) ws))
-        → getD (fills syn (fill syn L w) ws) s 0 ≡ orNoLeader (pickFirst (having syn s w) w (firstIn (having syn s) ws))
+        → (getD (fill syn L w) s 0 ≡ noLeader → getD (fills syn (fill syn L w) ws) s 0 ≡ orElse noLeader (firstIn (having syn s) ws))
+        → getD (fills syn (fill syn L w) ws) s 0 ≡ orElse noLeader (pickFirst (having syn s w) w (firstIn (having syn s) ws))
     go (yes e) kept more =
         let at : getD (fill syn L w) s 0 ≡ w =
         ap (λ (b : Bool). getD (cond b (set L (syn w) w) L) s 0) (eq-eqb (getD L (syn w) 0) (noLeader) (ap (λ (x : ℕ). getD L x 0) e ∙ z))
         ∙ ap (λ (x : ℕ). getD (set L x w) s 0) e ∙ getD-set-same L s w 0 h in
         kept (λ q. b (sym at ∙ q)) ∙ at
-        ∙ ap (λ (b : Bool). orNoLeader (pickFirst b w (firstIn (having syn s) ws))) (sym (eq-eqb (syn w) s e))
+        ∙ ap (λ (b : Bool). orElse noLeader (pickFirst b w (firstIn (having syn s) ws))) (sym (eq-eqb (syn w) s e))
     go (no k) kept more =
-        more (other (eqb (getD L (syn w) 0) (noLeader)) ∙ z) ∙ ap (λ (b : Bool). orNoLeader (pickFirst b w (firstIn (having syn s) ws)))
+        more (other (eqb (getD L (syn w) 0) (noLeader)) ∙ z) ∙ ap (λ (b : Bool). orElse noLeader (pickFirst b w (firstIn (having syn s) ws)))
         (sym (ne-eqb (syn w) s k))
       where
         other : (b : Bool) → getD (cond b (set L (syn w) w) L) s 0 ≡ getD L s 0
@@ -137,7 +138,7 @@ built n rs fits small s h =
     p : ℕ → Bool
     p = having (syndromeOf n rs) s
 
-    go : (o : Option ℕ) → InOrder p n (suc c) o → orNoLeader o ≡ leaderOf n rs s
+    go : (o : Option ℕ) → InOrder p n (suc c) o → orElse noLeader o ≡ leaderOf n rs s
     go none f = absurd (f (leaderOf n rs s) (leader-lightest n rs fits s h .below) (suc-le-suc (leader-light n rs fits s h))
         (leader-lightest n rs fits s h .passes))
     go (some b) f = lightest-one p (2 ^ n) b (leaderOf n rs s) (f .0) (leader-lightest n rs fits s h)

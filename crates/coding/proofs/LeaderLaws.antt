@@ -14,7 +14,8 @@ use Rattle.coding.specs.Word.{_⊕_, weight, distance}
 use Rattle.coding.specs.Matrix.{Codeword, Inside}
 use Rattle.coding.specs.Reduce.{reduce}
 use Rattle.coding.specs.Check.{check, checks, frees}
-use Rattle.coding.specs.Leader.{syndromeOf, IsLeader, lightestBelow, orNoLeader, having, leaderOf}
+use Rattle.coding.specs.Leader.{syndromeOf, IsLeader, noLeader, having, leaderOf}
+use Rattle.coding.specs.Lightest.{lightestBelow, orElse}
 use Rattle.coding.proofs.WordLaws.{xor-eq}
 use Rattle.coding.proofs.MatrixLaws.{encode-lt}
 use Rattle.coding.proofs.CheckLaws.{syndrome-xor, syndrome-lt}
@@ -41,7 +42,7 @@ module _ (n : ℕ) (rs : List ℕ) (fits : Inside n rs) where
       passes : T (having (syndromeOf n rs) s (spread (reduce n rs) s))
       passes = rw (syndrome-spread (reduce n rs) s h) (eqb-refl s)
 
-      go : (o : Option ℕ) → Found (having (syndromeOf n rs) s) (2 ^ n) o → IsLightest (having (syndromeOf n rs) s) (2 ^ n) (orNoLeader o)
+      go : (o : Option ℕ) → Found (having (syndromeOf n rs) s) (2 ^ n) o → IsLightest (having (syndromeOf n rs) s) (2 ^ n) (orElse noLeader o)
       go none f = absurd (f (spread (reduce n rs) s) in-n passes)
       go (some l) f = f
 

@@ -1,6 +1,6 @@
 -- Laws of the search for the lightest: it finds one where there is any, and there is one at most; and a word plus the lightest
 -- word of its syndrome is a nearest codeword. Assumes nothing.
-use mathlib.Core.Path.{_≡_, refl, sym, ap, _∙_}
+use mathlib.Core.Path.{_≡_, refl, sym, ap, ap₂, _∙_}
 use mathlib.Core.Logic.{⊎-elim}
 use mathlib.Core.Option.{Option, none, some}
 use mathlib.Core.Bool.{Bool, true, false, cond}
@@ -10,7 +10,8 @@ use native.Mathlib.Omega.{arith}
 use lib.Dec.{T, ltb, ltb→lt, nltb→le, eqb→eq, eqb-refl}
 use lib.Bits.{xor-lt, xor-self, xor-zero-r}
 use Rattle.coding.specs.Word.{_⊕_, weight, distance}
-use Rattle.coding.specs.Leader.{merge, lightestBelow, having}
+use Rattle.coding.specs.Lightest.{merge, lightestBelow}
+use Rattle.coding.specs.Leader.{having}
 use Rattle.coding.proofs.WordLaws.{xor-cancel}
 
 -- what holds of each number below m, and of m
@@ -68,6 +69,12 @@ pub lightest-one : (p : ℕ → Bool) (m a b : ℕ) → IsLightest p m a → IsL
 lightest-one p m a b f g =
     let e : weight a ≡ weight b = le-antisymm (f .light b (g .below) (g .passes)) (g .light a (f .below) (f .passes)) in
     le-antisymm (f .first b (g .below) (g .passes) (sym e)) (g .first a (f .below) (f .passes) e)
+
+-- tests that agree find the same
+pub lightest-same : (p q : ℕ → Bool) (m : ℕ) → ((v : ℕ) → v < m → p v ≡ q v) → lightestBelow p m ≡ lightestBelow q m
+lightest-same p q zero h = refl
+lightest-same p q (suc m) h =
+    ap₂ (λ (b : Bool) (o : Option ℕ). merge b m o) (h m (le-refl (suc m))) (lightest-same p q m (λ v l. h v (omega arith)))
 
 -- ---- the nearest codeword
 

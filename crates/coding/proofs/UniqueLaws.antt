@@ -10,7 +10,7 @@ use native.Mathlib.Omega.{arith}
 use lib.ListN.{length, getD}
 use lib.Seq.{ext-getD}
 use Rattle.coding.specs.Word.{_⊕_, bit, parity}
-use Rattle.coding.specs.Matrix.{sel, encode, Codeword}
+use Rattle.coding.specs.Matrix.{sel, encode, Codeword, SameCode}
 use Rattle.coding.specs.Reduced.{Leads, Echelon, ReducedForm}
 use Rattle.coding.proofs.WordLaws.{half-lt, xor-eq, bit-zeroth, bit-of-zero, bit-xor}
 use Rattle.coding.proofs.WeightLaws.{parity-pow}
@@ -91,7 +91,7 @@ module _ (a p : ℕ) (A P : List ℕ) (E : Echelon (a ∷ A) (p ∷ P)) where
           even = sym (bit-zeroth u) ∙ sym (pivot-place (a ∷ A) (p ∷ P) E u 0 (omega arith)) ∙ ap (λ (x : ℕ). bit x p) (sym e) ∙ z
 
 -- two lists of that shape with the same span are equal, and so are their pivots
-echelon-unique : (A B P Q : List ℕ) → Echelon A P → Echelon B Q → ((w : ℕ) → Codeword A w ↔ Codeword B w) → (A ≡ B) × (P ≡ Q)
+echelon-unique : (A B P Q : List ℕ) → Echelon A P → Echelon B Q → SameCode A B → (A ≡ B) × (P ≡ Q)
 echelon-unique [] [] P Q E F s = (refl, ext-getD 0 P Q (E .count ∙ sym (F .count)) (λ i h. absurd (omega (arith, E .count))))
 echelon-unique [] (b ∷ B) P Q E F s =
     absurd (lead-nonzero b _ (F .leads 0 (omega arith)) (s b .1 (row-codeword (b ∷ B) 0 (omega arith)) .2))

@@ -2,13 +2,13 @@
 use mathlib.Core.Path.{_≡_}
 use mathlib.Core.Logic.{_↔_}
 use mathlib.Core.List.{List}
-use mathlib.Core.Option.{Option, none, some}
-use mathlib.Core.Bool.{Bool, true, false, cond}
-use Prim.Native.Nat.{ℕ, zero, suc, _-_, _^_, _≤_, _<_}
-use lib.Dec.{eqb, ltb}
+use mathlib.Core.Bool.{Bool}
+use Prim.Native.Nat.{ℕ, _-_, _^_, _≤_, _<_}
+use lib.Dec.{eqb}
 use Rattle.coding.specs.Word.{_⊕_, weight}
 use Rattle.coding.specs.Matrix.{Codeword}
 use Rattle.coding.specs.Check.{checks, syndrome}
+use Rattle.coding.specs.Lightest.{lightestBelow, orElse}
 
 -- the syndrome by the matrix's own check rows
 abbrev pub syndromeOf : ℕ → List ℕ → ℕ → ℕ
@@ -23,24 +23,10 @@ pub record IsLeader (n : ℕ) (rows : List ℕ) (s l : ℕ) : Type 0 where
   pub lightest : (v : ℕ) → v < 2 ^ n → syndromeOf n rows v ≡ s → weight l ≤ weight v
   pub smallest : (v : ℕ) → v < 2 ^ n → syndromeOf n rows v ≡ s → weight v ≡ weight l → l ≤ v
 
--- of the numbers below m that pass a test the lightest, and of several the smallest
-abbrev pub merge : Bool → ℕ → Option ℕ → Option ℕ
-merge false m o = o
-merge true m none = some m
-merge true m (some b) = some (cond (ltb (weight m) (weight b)) m b)
-
-abbrev pub lightestBelow : (ℕ → Bool) → ℕ → Option ℕ
-lightestBelow p zero = none
-lightestBelow p (suc m) = merge (p m) m (lightestBelow p m)
-
 -- the blank entry: what the build writes before it tries words, and the value of a search that finds nothing. No lent list holds it at
 -- the end: every syndrome has a leader, and a leader weighs at most n - k (`leader-is`, `leader-light`)
 abbrev pub noLeader : ℕ
 noLeader = 2 ^ 32 - 1
-
-abbrev pub orNoLeader : Option ℕ → ℕ
-orNoLeader none = noLeader
-orNoLeader (some l) = l
 
 -- the words that have the syndrome s
 abbrev pub having : (ℕ → ℕ) → ℕ → ℕ → Bool
@@ -48,4 +34,4 @@ having syn s v = eqb (syn v) s
 
 -- the leader of the syndrome s; `leader-is` says that it is the one
 abbrev pub leaderOf : ℕ → List ℕ → ℕ → ℕ
-leaderOf n rows s = orNoLeader (lightestBelow (having (syndromeOf n rows) s) (2 ^ n))
+leaderOf n rows s = orElse noLeader (lightestBelow (having (syndromeOf n rows) s) (2 ^ n))

@@ -4,7 +4,8 @@ pub mod Matrix  -- sums of rows, codewords, messages, independence
 pub mod Reduced  -- the reduced row echelon form
 pub mod Reduce  -- how it is computed
 pub mod Check  -- check rows and syndromes
-pub mod Weight  -- weight counts, minimum distance
+pub mod Lightest  -- the lightest, then smallest of the numbers that pass a test
+pub mod Weight  -- weight counts, minimum distance, the lightest codeword
 pub mod Leader  -- coset leaders
 pub mod Order  -- words by weight and number, and the list they fill
 pub mod Radius  -- demand 3

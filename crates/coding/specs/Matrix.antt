@@ -1,5 +1,6 @@
 -- 01, "Words and matrices": a generator matrix is a list of rows; message place i selects row i.
 use mathlib.Core.Path.{_≡_}
+use mathlib.Core.Logic.{_↔_}
 use mathlib.Core.List.{List, [], _∷_}
 use mathlib.Core.Bool.{Bool}
 use Prim.Native.Nat.{ℕ, zero, suc, _/_, _%_, _^_, _<_}
@@ -21,6 +22,10 @@ encode (r ∷ rows) u = sel (u % 2) r ⊕ encode rows (u / 2)
 -- w is the codeword of one of the 2 ^ k messages; in other words, w is in the span of the rows
 abbrev pub Codeword : List ℕ → ℕ → Type 0
 Codeword rows w = (u : ℕ) × (u < 2 ^ length rows) × (w ≡ encode rows u)
+
+-- two matrices of one code: they have the same codewords
+abbrev pub SameCode : List ℕ → List ℕ → Type 0
+SameCode rows others = (w : ℕ) → Codeword rows w ↔ Codeword others w
 
 -- u is the message of the codeword w, and the only one
 pub record IsMessage (rows : List ℕ) (w u : ℕ) : Type 0 where

@@ -1,11 +1,11 @@
 -- 01, part 1: the reduced row echelon form of a matrix. No place is moved; the leftmost one is the one at the lowest place.
 use mathlib.Core.Path.{_≡_}
-use mathlib.Core.Logic.{_≢_, _↔_}
+use mathlib.Core.Logic.{_≢_}
 use mathlib.Core.List.{List}
 use Prim.Native.Nat.{ℕ, _<_}
 use lib.ListN.{length, getD}
 use Rattle.coding.specs.Word.{bit}
-use Rattle.coding.specs.Matrix.{encode, Codeword, Inside}
+use Rattle.coding.specs.Matrix.{encode, SameCode, Inside}
 
 -- the leftmost one of w stands at place p
 pub record Leads (w p : ℕ) : Type 0 where
@@ -22,7 +22,7 @@ pub record Echelon (rows pivots : List ℕ) : Type 0 where
 -- rows is the reduced row echelon form of given: it has that shape, with these pivots, and the same span
 pub record ReducedForm (given rows pivots : List ℕ) : Type 0 where
   pub echelon : Echelon rows pivots
-  pub same-span : (w : ℕ) → Codeword given w ↔ Codeword rows w
+  pub same-span : SameCode given rows
 
 -- the reduced rows listed by place: of m entries, at pivot i stands row i, and at every place that is no pivot 0
 pub record ByPivot (m : ℕ) (rows pivots table : List ℕ) : Type 0 where

@@ -1,14 +1,15 @@
--- 01, part 3: weight counts and the minimum distance.
+-- 01, part 3: weight counts and the minimum distance; 02, No. 2: the lightest codeword.
 use mathlib.Core.Path.{_≡_}
 use mathlib.Core.Logic.{_≢_}
 use mathlib.Core.List.{List}
-use mathlib.Core.Bool.{Bool, cond, _&&_}
+use mathlib.Core.Bool.{Bool, cond, not, _&&_}
 use Prim.Native.Nat.{ℕ, zero, suc, _+_, _-_, _^_, _≤_, min}
 use lib.Dec.{eqb}
 use lib.ListN.{length}
 use Rattle.coding.specs.Lists.{tabulate}
 use Rattle.coding.specs.Word.{weight, distance}
 use Rattle.coding.specs.Matrix.{encode, Codeword, isCodeword}
+use Rattle.coding.specs.Lightest.{lightestBelow, orElse}
 
 -- how many numbers below m pass the test
 abbrev pub count : (ℕ → Bool) → ℕ → ℕ
@@ -40,8 +41,18 @@ pub record MinimumDistance (n : ℕ) (rows : List ℕ) (d : ℕ) : Type 0 where
   pub apart : (a b : ℕ) → Codeword rows a → Codeword rows b → a ≢ b → d ≤ distance a b
   pub bounds : (1 ≤ d) × (d ≤ n)
 
--- w is a codeword of weight dmin, and not 0
+-- the codewords that are not 0
+abbrev pub nonzeroCodeword : List ℕ → ℕ → Bool
+nonzeroCodeword rows w = isCodeword rows w && not (eqb w 0)
+
+-- the lightest codeword: of those of n places that are not 0 the lightest, of several the smallest; `lightest-codeword` says that it is
+-- the one (0 where there is none)
+unfoldable pub lightestCodeword : ℕ → List ℕ → ℕ
+lightestCodeword n rows = orElse 0 (lightestBelow (nonzeroCodeword rows) (2 ^ n))
+
+-- w is the smallest number among the nonzero codewords of weight dmin
 pub record Lightest (rows : List ℕ) (w : ℕ) : Type 0 where
   pub codeword : Codeword rows w
   pub nonzero : w ≢ 0
   pub weighs : weight w ≡ dmin rows
+  pub smallest : (v : ℕ) → Codeword rows v → v ≢ 0 → weight v ≡ dmin rows → w ≤ v

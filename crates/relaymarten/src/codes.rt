@@ -19,7 +19,7 @@ ghost use Rattle.decoder.specs.Decoded.{Decoded};
 ghost use Rattle.relaymarten.specs.Reading.{readingOf};
 ghost use Rattle.relaymarten.specs.Told.{Told};
 
-// Writes what a matrix's code is: its reduced rows, check rows, weight counts, minimum distance and a codeword of that weight.
+// Writes what a matrix's code is: its reduced rows, check rows, weight counts, minimum distance and lightest codeword.
 #[no_mangle]
 pub extern "C" fn relay_describe(
     n: u32,

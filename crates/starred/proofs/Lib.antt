@@ -1,2 +1,3 @@
 pub mod Starred  -- the value of the table
 pub mod Sheets  -- the value of the table of sheets
+pub mod LightestCodewords  -- the value of the table of lightest codewords

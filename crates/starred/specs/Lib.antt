@@ -1,3 +1,4 @@
 pub mod Matrices  -- the matrices of the examples
 pub mod Starred  -- the table
 pub mod Sheets  -- the sheets, and what is printed for them
+pub mod LightestCodewords  -- the lightest codeword of each matrix

@@ -23,6 +23,14 @@ seven = map (digits 7) (0b1101000 ∷ 0b0110100 ∷ 0b1110010 ∷ 0b1010001 ∷ 
 abbrev pub five : List ℕ
 five = map (digits 5) (0b10111 ∷ 0b01101 ∷ [])
 
+-- the same code by rows 10111, 11010
+abbrev pub otherFive : List ℕ
+otherFive = map (digits 5) (0b10111 ∷ 0b11010 ∷ [])
+
+-- (6,3) with rows 100011, 010101, 001110, that of 01's sheet
+abbrev pub six : List ℕ
+six = map (digits 6) (0b100011 ∷ 0b010101 ∷ 0b001110 ∷ [])
+
 -- n = 4, rows 1100, 1010, 0110, the last the sum of the others
 abbrev pub four : List ℕ
 four = map (digits 4) (0b1100 ∷ 0b1010 ∷ 0b0110 ∷ [])

@@ -1,6 +1,6 @@
 // Test vectors of the crates linear, weights, decoder, golay and hsiao: each record of standard input is one call, and its line says
 // how the call ended and what every lent list holds afterwards. The stored input and output, which reference/vectors.py makes from
-// document 01 alone, decide.
+// documents 01 and 02 alone, decide.
 mod batch_calls; // operations on a matrix and a batch of words
 mod golay_calls; // operations of the extended Golay code
 mod golay_patterns; // every message and every error pattern of it

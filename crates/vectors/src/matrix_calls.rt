@@ -1,4 +1,4 @@
-// Operations 10 to 16, on a matrix and a word x.
+// Operations 10 to 15, on a matrix and a word x.
 use crate::print;
 use crate::print::answer;
 use crate::print::item;
@@ -9,7 +9,6 @@ use parity::syndrome;
 use weights::describe;
 use weights::weights_of;
 use words::sums::row_sum;
-use words::word::weight;
 
 fn reduced(n: u32, k: u32, rows: &[u32]) {
     let r = reduced_rows(n, k, rows);
@@ -29,24 +28,18 @@ fn checked(n: u32, k: u32, rows: &[u32], w: u32) {
     print::checks(&checks);
 }
 
-// The minimum distance, the weight of the lightest codeword, and the counts.
+// The minimum distance, the lightest codeword and the counts.
 fn weighed(n: u32, k: u32, rows: &[u32]) {
     let w = weights_of(n, k, rows);
     let a = w.answer;
     let counts = w.counts;
     answer(a);
     item(w.dmin);
-    item(weight(w.lightest));
+    item(w.lightest);
     print::weights(&counts);
 }
 
-// The lightest codeword itself, for codes that have but one.
-fn lightest(n: u32, k: u32, rows: &[u32]) -> u32 {
-    let w = weights_of(n, k, rows);
-    w.lightest
-}
-
-// The minimum distance, the weight and the syndrome of the lightest codeword, which may be any of several, and the lists.
+// The minimum distance, the lightest codeword and the lists.
 fn described(n: u32, k: u32, rows: &[u32]) {
     let d = describe(n, k, rows);
     let a = d.answer;
@@ -55,8 +48,7 @@ fn described(n: u32, k: u32, rows: &[u32]) {
     let counts = d.counts;
     answer(a);
     item(d.dmin);
-    item(weight(d.lightest));
-    item(syndrome(&checks, d.lightest));
+    item(d.lightest);
     print::rows(&reduced);
     print::checks(&checks);
     print::weights(&counts);
@@ -69,7 +61,6 @@ pub(crate) fn call(operation: u8, n: u32, k: u32, x: u32, rows: &[u32]) {
         12 => checked(n, k, rows, x),
         13 => item(row_sum(rows, x)),
         14 => weighed(n, k, rows),
-        15 => item(lightest(n, k, rows)),
         _ => described(n, k, rows),
     }
 }

@@ -1,5 +1,5 @@
 -- Laws of a finished walk over an accepted matrix: its counts are the weight counts, its least weight is the minimum distance, and the
--- word it holds is a lightest codeword. Assumes nothing.
+-- word it holds is the lightest codeword. Assumes nothing.
 use mathlib.Core.Path.{_≡_, refl, sym, ap, _∙_}
 use mathlib.Core.Logic.{_≢_}
 use mathlib.Core.List.{List}
@@ -14,11 +14,12 @@ use borrow.Author.Tests.{eq-eqb, ne-eqb}
 use Rattle.coding.specs.Lists.{zeros, padded}
 use Rattle.coding.specs.Word.{weight}
 use Rattle.coding.specs.Matrix.{encode}
-use Rattle.coding.specs.Weight.{count, weightCount, weightCounts, dmin, MinimumDistance, Lightest}
+use Rattle.coding.specs.Weight.{count, weightCount, weightCounts, dmin, MinimumDistance, lightestCodeword, Lightest}
 use Rattle.coding.proofs.WeightLaws.{weight-zero}
 use Rattle.coding.proofs.MatrixLaws.{encode-lt}
 use Rattle.coding.proofs.ListLaws.{length-tabulate, getD-tabulate}
 use Rattle.coding.proofs.CountLaws.{count-none, count-some}
+use Rattle.coding.proofs.LightestCodewordLaws.{lightest-only, lightest-one-code}
 use Rattle.coding.proofs.WeightCountLaws.{weightCount-messages, weightCounts-total}
 use Rattle.words.specs.declared.answer.Refusal.{Refusal}
 use Rattle.words.specs.declared.answer.Answer.the-variants.{Done, Refused}
@@ -93,13 +94,22 @@ module _ (n k : ℕ) (rows : List ℕ) (A : Accepted n k rows) (w : Walk) (W : W
           let t : weight (encode rows u) ≡ dmin rows = ap weight (sym e) ∙ q in
           omega (arith, W .counts (dmin rows) h, z, count-some (λ u. eqb (weight (encode rows u)) (dmin rows)) (2 ^ length rows) u k (eq-eqb _ _ t))
 
-  pub lightest-is : Lightest rows (w .lightest)
-  lightest-is =
-      let (u, h, e, q) = W .lightest (omega (arith, least-is, D .bounds, A .range .places)) in
-      record { codeword = (u, h, e); nonzero = λ z. zero-light z q; weighs = q ∙ least-is }
+  -- the word held is the smallest of the nonzero codewords of that weight
+  held-lightest : Lightest rows (w .lightest)
+  held-lightest =
+      let H = W .lightest (omega (arith, least-is, D .bounds, A .range .places)) in
+      record {
+        codeword = H .met;
+        nonzero = λ z. zero-light z (H .weighs);
+        weighs = H .weighs ∙ least-is;
+        smallest = λ v (u, h, e) ne q. rw e (H .smallest u h (ap weight (sym e) ∙ q ∙ sym least-is));
+      }
     where
       zero-light : w .lightest ≡ 0 → weight (w .lightest) ≡ w .least → ⊥
       zero-light z q = omega (arith, sym q ∙ ap weight z ∙ weight-zero, least-is, D .bounds)
+
+  lightest-is : w .lightest ≡ lightestCodeword n rows
+  lightest-is = lightest-only n rows (A .inside) D (w .lightest) held-lightest
 
   -- the parts of part 3 are read off the walk
   pub walked-weights : WeightsOf n k rows (record { answer = Done; dmin = w .least; counts = w .counts; lightest = w .lightest })
@@ -109,8 +119,9 @@ module _ (n k : ℕ) (rows : List ℕ) (A : Accepted n k rows) (w : Walk) (W : W
     counts-are = counts-are;
     distance = λ _. D;
     sum = λ _. weightCounts-total n rows (A .inside) (A .independent) ∙ ap (λ (x : ℕ). 2 ^ x) (A .count);
-    lightest = λ _. lightest-is;
-    none = refl;
+    lightest-is = lightest-is;
+    lightest = λ _. held-lightest;
+    everywhere = λ _ others s. lightest-is ∙ lightest-one-code n rows others s;
   }
 
 -- on a refusal every other part is 0
@@ -122,6 +133,7 @@ refused-weights n k rows r c e m (x, y, z) = record {
   counts-are = rw e y;
   distance = λ d. refused-done (sym e ∙ d);
   sum = λ d. refused-done (sym e ∙ d);
+  lightest-is = rw e z;
   lightest = λ d. refused-done (sym e ∙ d);
-  none = rw e z;
+  everywhere = λ d. refused-done (sym e ∙ d);
 }

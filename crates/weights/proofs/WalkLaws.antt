@@ -1,10 +1,10 @@
 -- Laws of the walk over the codewords. Assumes nothing.
 use mathlib.Core.Path.{_≡_, refl, sym, ap, ap₂, _∙_}
-use mathlib.Core.Logic.{_≢_, _⊎_, inl, inr}
+use mathlib.Core.Logic.{_≢_, _⊎_, inl, inr, ⊎-elim}
 use mathlib.Core.List.{List, _++_, map}
 use mathlib.Core.Bool.{Bool, true, false, not, cond}
-use Prim.Native.Nat.{ℕ, zero, suc, _+_, _-_, _≤_, _<_, _^_, _*_, _%_}
-use native.Mathlib.Nat.{mul-le-mul-right, mul-comm, add-mul, one-mul, add-zero, zero-mul}
+use Prim.Native.Nat.{ℕ, zero, suc, _+_, _-_, _≤_, _<_, _^_, _*_, _%_, min}
+use native.Mathlib.Nat.{le-refl, le-trans, min-le-left, min-le-right, mul-le-mul-right, mul-comm, add-mul, one-mul, add-zero, zero-mul}
 use native.Mathlib.Decide.{ℕ-discrete, decLe}
 use native.Mathlib.Omega.{arith}
 use lib.Dec.{eqb}
@@ -21,10 +21,10 @@ use Rattle.coding.specs.Matrix.{encode}
 use Rattle.coding.specs.Weight.{count}
 use Rattle.coding.proofs.ListLaws.{getD-map, length-tabulate, getD-tabulate}
 use Rattle.coding.proofs.SearchLaws.{first-is, first-le, first-hit, first-before, first-upto}
-use Rattle.coding.proofs.CountLaws.{count-step, count-same, count-add, count-le, count-found}
+use Rattle.coding.proofs.CountLaws.{count-step, count-same, count-add, count-le, count-some, count-found}
 use Rattle.coding.proofs.MatrixLaws.{encode-split}
 use Rattle.coding.proofs.MachineLaws.{shl-one}
-use Rattle.weights.specs.Inner.Walked.{leastOf, Tallied, BlockWalked, Walked}
+use Rattle.weights.specs.Inner.Walked.{leastOf, Tallied, SmallestOf, BlockWalked, Walked}
 use Rattle.weights.specs.declared.walk.Walk.{Walk}
 
 -- weight i + 1 has been counted
@@ -92,6 +92,32 @@ module _ {ws counts₀ : List ℕ} {i : ℕ} {counts : List ℕ} (T : Tallying w
   pub tally-end : length ws ≤ i → Tallied ws counts₀ counts
   tally-end h = let e : i ≡ length ws = omega (arith, T .upto) in record { size = T .size; grown = λ j. rw e at (T .grown j) }
 
+-- ---- the smallest of a block's words of one weight, one word after the other
+
+pub smallest-start : (block : List ℕ) (base : ℕ) (ws : List ℕ) (w : ℕ) → SmallestOf block base ws w 0 (2 ^ 32 - 1)
+smallest-start block base ws w = record { each = λ i h. absurd (omega arith); one = inl refl }
+
+module _ {block : List ℕ} {base : ℕ} {ws : List ℕ} {w m r : ℕ} (S : SmallestOf block base ws w m r) where
+  -- one word more is looked at; x is no larger than the one found, nor than this one where it has the weight
+  each-to : (x : ℕ) → x ≤ r → (getD ws m 0 ≡ w → x ≤ getD block m 0 ⊕ base) → (i : ℕ) → i < m + 1 → getD ws i 0 ≡ w → x ≤ getD block i 0 ⊕ base
+  each-to x h f i k q = go (decLe (suc i) m)
+    where
+      go : Dec (i < m) → x ≤ getD block i 0 ⊕ base
+      go (yes l) = le-trans h (S .each i l q)
+      go (no l) = let e : i ≡ m = omega arith in rw e (f (rw e at q))
+
+  pub smallest-keep : (getD ws m 0 ≡ w → r ≤ getD block m 0 ⊕ base) → SmallestOf block base ws w (m + 1) r
+  smallest-keep f = record {
+    each = each-to r (le-refl r) f;
+    one = ⊎-elim inl (λ (i, h, q, e). inr (i, omega arith, q, e)) (S .one);
+  }
+
+  pub smallest-take : getD ws m 0 ≡ w → getD block m 0 ⊕ base < r → SmallestOf block base ws w (m + 1) (getD block m 0 ⊕ base)
+  smallest-take q h = record {
+    each = each-to (getD block m 0 ⊕ base) (omega arith) (λ _. le-refl (getD block m 0 ⊕ base));
+    one = inr (m, omega arith, q, refl);
+  }
+
 -- ---- a block has been tallied
 
 -- a sum of two machine words weighs at most 32
@@ -129,36 +155,139 @@ module _ {block : List ℕ} {base : ℕ} {w : Walk} {ws after : List ℕ} {l : �
       ∙ ap (λ (n : ℕ). getD (w .counts) j 0 + n)
       (count-same (λ i. eqb (getD ws i 0) j) (λ i. eqb (distance (getD block i 0) base) j) (length block) (λ i h. ap (λ (x : ℕ). eqb x j) (entry i h)))
 
-  -- the least weight counted has fallen, and a word of the block has it
-  module _ (h : l < w .least) {at : ℕ} (is-at : at ≡ first (λ i. eqb (getD ws i 0) l) (length ws)) where
-    pub fallen-at : at < length block
-    fallen-at =
-        let b = first-le (counted (w .counts)) 32 in
-        let none : getD (w .counts) l 0 ≡ 0 = rw (W .least) (none-below (w .counts) _ (omega arith)) in
-        let some : getD after l 0 ≢ 0 = rw (W .least) (some-at after (omega arith)) in
-        let (i, k, q) = count-found (λ i. eqb (getD ws i 0) l) (length ws) (omega (arith, W .tallied .grown l)) in
-        omega (arith, weights-long block base (W .weights), first-upto (λ i. eqb (getD ws i 0) l) (length ws) i k q)
-
-    weighs : distance (getD block at 0) base ≡ l
-    weighs =
-        let k : first (λ i. eqb (getD ws i 0) l) (length ws) < length ws = omega (arith, fallen-at, weights-long block base (W .weights)) in
-        sym (entry at fallen-at) ∙ ap (λ (x : ℕ). getD ws x 0) is-at ∙ eqb-true _ _ (first-hit (λ i. eqb (getD ws i 0) l) (length ws) k)
-
-    pub walk-fallen : BlockWalked block base w (record { counts = after; least = l; lightest = getD block at 0 ⊕ base })
-    walk-fallen = record { size = W .tallied .size; grown = grown; least = W .least; lightest = inr (at, fallen-at, refl, weighs) }
-
-  -- it is what it was
-  pub walk-stayed : w .least ≤ l → BlockWalked block base w (record { counts = after; least = l; lightest = w .lightest })
-  walk-stayed h = record { size = W .tallied .size; grown = grown; least = W .least; lightest = inl (same (decLe l (w .least)), refl) }
+  -- a weight that was counted still is
+  falls : l ≤ w .least
+  falls = go (decLe l (w .least))
     where
-      -- a weight that was counted still is
-      same : Dec (l ≤ w .least) → l ≡ w .least
-      same (yes k) = omega arith
-      same (no k) =
+      go : Dec (l ≤ w .least) → l ≤ w .least
+      go (yes k) = k
+      go (no k) =
           let b = first-le (counted after) 32 in
           let none : getD after (w .least) 0 ≡ 0 = rw (W .held) (none-below after _ (omega arith)) in
           let some : getD (w .counts) (w .least) 0 ≢ 0 = rw (W .held) (some-at (w .counts) (omega arith)) in
           absurd (omega (arith, W .tallied .grown (w .least), none, some))
+
+  -- one that was counted before is no less than the least
+  not-before : l < w .least → getD (w .counts) l 0 ≡ 0
+  not-before h = rw (W .least) (none-below (w .counts) _ (omega arith))
+
+  long : length ws ≡ length block
+  long = weights-long block base (W .weights)
+
+  in-size : (i : ℕ) → i < length ws → i < length block
+  in-size i h = rw long at h
+
+  module _ (rows : List ℕ) (m : ℕ) (words : (i : ℕ) → i < length block → getD block i 0 ⊕ base ≡ encode rows (m + i)) (M : Walked rows m w) where
+    counts : (j : ℕ) → j < 33 → getD after j 0 ≡ count (λ u. eqb (weight (encode rows u)) j) (m + length block)
+    counts j h =
+        grown j
+        ∙ ap₂ _+_ (M .counts j h)
+        (count-same (λ i. eqb (distance (getD block i 0) base) j) (λ i. eqb (weight (encode rows (m + i))) j) (length block)
+        (λ i k. ap (λ (x : ℕ). eqb (weight x) j) (words i k)))
+        ∙ sym (count-add (λ u. eqb (weight (encode rows u)) j) m (length block))
+
+    -- where a message before the block has a codeword of the least weight, that was the least weight before
+    met-before : l < 33 → (u : ℕ) → u < m → weight (encode rows u) ≡ l → l ≡ w .least
+    met-before h u k e = go (decLe (w .least) l)
+      where
+        go : Dec (w .least ≤ l) → l ≡ w .least
+        go (yes q) = omega (arith, falls)
+        go (no q) =
+            absurd (omega (
+              arith,
+              not-before (omega arith),
+              M .counts l h,
+              count-some (λ u. eqb (weight (encode rows u)) l) m u k (eq-eqb _ _ e),
+            ))
+
+    -- a word that no word of the block is smaller than, nor the one held where its weight is still the least
+    module _ (x : ℕ) (old : l ≡ w .least → x ≤ w .lightest)
+        (new : l < 33 → (i : ℕ) → i < length block → getD ws i 0 ≡ l → x ≤ getD block i 0 ⊕ base) where
+      smallest : l < 33 → (u : ℕ) → u < m + length block → weight (encode rows u) ≡ l → x ≤ encode rows u
+      smallest h u k e = go (decLe (suc u) m)
+        where
+          go : Dec (u < m) → x ≤ encode rows u
+          go (yes q) =
+              let s = met-before h u q e in
+              omega (arith, old s, M .lightest (omega arith) .smallest u q (e ∙ s))
+          go (no q) =
+              let i = u - m in
+              let is : m + i ≡ u = omega arith in
+              let at : getD block i 0 ⊕ base ≡ encode rows u = rw is at (words i (omega arith)) in
+              rw at at (new h i (omega arith) (entry i (omega arith) ∙ ap weight at ∙ e))
+
+      walks : (l < 33 → ((u : ℕ) × (u < m + length block) × (x ≡ encode rows u)) × (weight x ≡ l))
+          → Walked rows (m + length block) (record { counts = after; least = l; lightest = x })
+      walks f = record {
+        size = W .tallied .size;
+        counts = counts;
+        least = W .least;
+        lightest = λ h. record { met = f h .0; weighs = f h .1; smallest = smallest h };
+      }
+
+    held-still : (x : ℕ) → x ≡ w .lightest → l ≡ w .least → l < 33
+        → ((u : ℕ) × (u < m + length block) × (x ≡ encode rows u)) × (weight x ≡ l)
+    held-still x e s h =
+        let H = M .lightest (omega arith) in
+        let (u, k, q) = H .met in
+        ((u, omega arith, e ∙ q), ap weight e ∙ H .weighs ∙ sym s)
+
+    in-block : (x i : ℕ) → i < length block → getD ws i 0 ≡ l → x ≡ getD block i 0 ⊕ base
+        → ((u : ℕ) × (u < m + length block) × (x ≡ encode rows u)) × (weight x ≡ l)
+    in-block x i k q e = ((m + i, omega arith, e ∙ words i k), ap weight e ∙ sym (entry i k) ∙ q)
+
+  -- no word of the block has the least weight
+  pub walk-kept : (l < 33 → getD after l 0 ≤ getD (w .counts) l 0) → BlockWalked block base w (record { counts = after; least = l; lightest = w .lightest })
+  walk-kept stays rows m words M =
+      walks rows m words M (w .lightest) (λ _. le-refl (w .lightest)) (λ h i k q. absurd (none h i k q))
+      (λ h. held-still rows m words M (w .lightest) refl (same h (decLe (w .least) l)) h)
+    where
+      none : l < 33 → (i : ℕ) → i < length block → getD ws i 0 ≡ l → ⊥
+      none h i k q =
+          omega (arith, stays h, W .tallied .grown l, count-some (λ i. eqb (getD ws i 0) l) (length ws) i (rw long k) (eq-eqb _ _ q))
+
+      same : l < 33 → Dec (w .least ≤ l) → l ≡ w .least
+      same h (yes k) = omega (arith, falls)
+      same h (no k) =
+          let some : getD after l 0 ≢ 0 = rw (W .least) (some-at after (rw (W .least) at h)) in
+          absurd (omega (arith, some, stays h, not-before (omega arith)))
+
+  -- one has: y is the smallest of these, and r that or the word held
+  module _ {y r : ℕ} (small-block : (i : ℕ) → i < length block → getD block i 0 < 2 ^ 32) (small-base : base < 2 ^ 32)
+      (grew : getD (w .counts) l 0 < getD after l 0) (S : SmallestOf block base ws l (length block) y)
+      (K : (l < w .least → r ≡ y) × (w .least ≤ l → r ≡ min (w .lightest) y)) where
+    -- no machine word is larger than 2^32 - 1, so that y is a word of the block
+    found : (i : ℕ) × (i < length block) × (getD ws i 0 ≡ l) × (y ≡ getD block i 0 ⊕ base)
+    found = go (S .one)
+      where
+        go : (y ≡ 2 ^ 32 - 1) ⊎ ((i : ℕ) × (i < length block) × (getD ws i 0 ≡ l) × (y ≡ getD block i 0 ⊕ base))
+            → (i : ℕ) × (i < length block) × (getD ws i 0 ≡ l) × (y ≡ getD block i 0 ⊕ base)
+        go (inr f) = f
+        go (inl e) =
+            let (i, f, t) = count-found (λ i. eqb (getD ws i 0) l) (length ws) (omega (arith, W .tallied .grown l)) in
+            let q : getD ws i 0 ≡ l = eqb-true _ _ t in
+            let g = in-size i f in
+            (i, g, q, omega (arith, S .each i g q, e, xor-lt 32 (getD block i 0) base (small-block i g) small-base))
+
+    below : r ≤ y
+    below = go (decLe (w .least) l)
+      where
+        go : Dec (w .least ≤ l) → r ≤ y
+        go (yes k) = rw (K .1 k) (min-le-right (w .lightest) y)
+        go (no k) = rw (K .0 (omega arith)) (le-refl y)
+
+    pub walk-smallest : BlockWalked block base w (record { counts = after; least = l; lightest = r })
+    walk-smallest rows m words M =
+        walks rows m words M r (λ e. rw (K .1 (omega arith)) (min-le-left (w .lightest) y)) (λ h i k q. le-trans below (S .each i k q))
+        (λ h. go h (decLe (w .least) l) (decLe (w .lightest) y))
+      where
+        of-block : r ≡ y → ((u : ℕ) × (u < m + length block) × (r ≡ encode rows u)) × (weight r ≡ l)
+        of-block e = let (i, k, q, f) = found in in-block rows m words M r i k q (e ∙ f)
+
+        go : l < 33 → Dec (w .least ≤ l) → Dec (w .lightest ≤ y) → ((u : ℕ) × (u < m + length block) × (r ≡ encode rows u)) × (weight r ≡ l)
+        go h (yes k) (yes q) = held-still rows m words M r (omega (arith, K .1 k)) (omega (arith, falls)) h
+        go h (yes k) (no q) = of-block (omega (arith, K .1 k))
+        go h (no k) q = of-block (K .0 (omega arith))
 
 -- ---- the walk block by block
 
@@ -201,28 +330,8 @@ module _ (front others : List ℕ) (h : ℕ) (block : List ℕ) (is : block ≡ 
 
   walked-block : (w v : Walk) → Walked (front ++ others) (h * 2 ^ length front) w → BlockWalked block base w v
       → Walked (front ++ others) ((h + 1) * 2 ^ length front) v
-  walked-block w v W B = rw next-block (record { size = B .size; counts = counts; least = B .least; lightest = λ l. light l (B .lightest) })
-    where
-      counts : (j : ℕ) → j < 33
-          → getD (v .counts) j 0 ≡ count (λ u. eqb (weight (encode (front ++ others) u)) j) (h * 2 ^ length front + 2 ^ length front)
-      counts j l =
-          B .grown j
-          ∙ ap₂ _+_ (W .counts j l)
-          (ap (count (λ i. eqb (distance (getD block i 0) base) j)) long-block
-          ∙ count-same (λ i. eqb (distance (getD block i 0) base) j) (λ i. eqb (weight (encode (front ++ others) (h * 2 ^ length front + i))) j)
-          (2 ^ length front) (λ i k. ap (λ (x : ℕ). eqb (weight x) j) (words i k)))
-          ∙ sym (count-add (λ u. eqb (weight (encode (front ++ others) u)) j) (h * 2 ^ length front) (2 ^ length front))
-
-      light : v .least < 33
-          → ((v .least ≡ w .least) × (v .lightest ≡ w .lightest))
-          ⊎ ((i : ℕ) × (i < length block) × (v .lightest ≡ getD block i 0 ⊕ base) × (weight (v .lightest) ≡ v .least))
-          → (u : ℕ) × (u < h * 2 ^ length front + 2 ^ length front) × (v .lightest ≡ encode (front ++ others) u) × (weight (v .lightest) ≡ v .least)
-      light l (inl (e, f)) =
-          let (u, k, q, r) = W .lightest (omega arith) in
-          (u, omega arith, f ∙ q, ap weight f ∙ r ∙ sym e)
-      light l (inr (i, k, e, r)) =
-          let k′ : i < 2 ^ length front = rw long-block at k in
-          (h * 2 ^ length front + i, omega arith, e ∙ words i k′, r)
+  walked-block w v W B =
+      rw next-block (rw long-block at (B (front ++ others) (h * 2 ^ length front) (λ i k. words i (rw long-block at k)) W))
 
 -- h blocks have been walked
 pub record Blocks (front others block : List ℕ) (end : ℕ) (walk : Walk) (h : ℕ) : Type 0 where

@@ -1,9 +1,10 @@
--- 01, part 3 and Describe: what the calls for the weights and for the whole description answer.
+-- 01, part 3 and Describe, with 02, No. 2: what the calls for the weights and for the whole description answer.
 use mathlib.Core.Path.{_≡_}
 use mathlib.Core.List.{List}
 use Prim.Native.Nat.{ℕ, _^_}
 use Rattle.coding.specs.Lists.{zeros, padded, total}
-use Rattle.coding.specs.Weight.{weightCounts, dmin, MinimumDistance, Lightest}
+use Rattle.coding.specs.Matrix.{SameCode}
+use Rattle.coding.specs.Weight.{weightCounts, dmin, MinimumDistance, lightestCodeword, Lightest}
 use Rattle.words.specs.Limits.{weightSlots}
 use Rattle.words.specs.Refusal.{ifDone}
 use Rattle.words.specs.Accepted.{matrixAnswer}
@@ -14,16 +15,18 @@ use Rattle.weights.specs.declared.weights.Weights.{Weights}
 use Rattle.weights.specs.declared.description.Description.{Description}
 
 -- causes 1 to 4; for an accepted matrix the minimum distance and the counts of the definitions (0 past n), which is the least weight
--- of a nonzero codeword and the least distance of two codewords; the counts add to 2 ^ k; and the lightest word, the one part that
--- 01 leaves open, is a nonzero codeword of that weight. On a refusal every other part is 0
+-- of a nonzero codeword and the least distance of two codewords; the counts add to 2 ^ k; and the lightest codeword of the definition,
+-- which is the smallest number among the nonzero codewords of that weight, and the same for every matrix of the code. On a refusal every
+-- other part is 0
 pub record WeightsOf (n k : ℕ) (rows : List ℕ) (r : Weights) : Type 0 where
   pub answer : r .answer ≡ matrixAnswer n k rows
   pub dmin-is : r .dmin ≡ ifDone (r .answer) (dmin rows) 0
   pub counts-are : r .counts ≡ ifDone (r .answer) (padded weightSlots (weightCounts n rows)) (zeros weightSlots)
   pub distance : r .answer ≡ Done → MinimumDistance n rows (dmin rows)
   pub sum : r .answer ≡ Done → total (weightCounts n rows) ≡ 2 ^ k
+  pub lightest-is : r .lightest ≡ ifDone (r .answer) (lightestCodeword n rows) 0
   pub lightest : r .answer ≡ Done → Lightest rows (r .lightest)
-  pub none : r .lightest ≡ ifDone (r .answer) (r .lightest) 0
+  pub everywhere : r .answer ≡ Done → (others : List ℕ) → SameCode rows others → r .lightest ≡ lightestCodeword n others
 
 -- Describe: the reduced rows and the check rows as the linear algebra states them, and the weights
 pub record DescriptionOf (n k : ℕ) (rows : List ℕ) (r : Description) : Type 0 where

@@ -10,8 +10,8 @@ ghost use Rattle.coding.specs.Lists.{zeros};
 ghost use Rattle.words.specs.Limits.{maxRows, maxChecks, weightSlots};
 ghost use Rattle.weights.specs.Description.{DescriptionOf};
 
-// The answer to a matrix; where it is accepted, its reduced rows, check rows, minimum distance, weight counts and a codeword of
-// weight dmin. Entries past k, n - k and n are 0, and on a refusal every part is 0.
+// The answer to a matrix; where it is accepted, its reduced rows, check rows, minimum distance, weight counts and lightest codeword,
+// the smallest of those of weight dmin. Entries past k, n - k and n are 0, and on a refusal every part is 0.
 pub struct Description {
     pub answer: Answer,
     pub rows: [u32; MAX_ROWS],

@@ -1,7 +1,7 @@
 // Weights, minimum distance and Describe: document 01, part 3, over the linear algebra.
 pub mod description; // Describe
 pub mod walk; // one walk over the codewords, in blocks
-pub mod weights; // weight counts, minimum distance and a lightest codeword of an accepted matrix
+pub mod weights; // weight counts, minimum distance and lightest codeword of an accepted matrix
 
 pub use crate::description::describe;
 pub use crate::weights::weights_of;

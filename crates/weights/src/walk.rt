@@ -5,14 +5,13 @@ use words::sums::row_sum;
 use words::word::distance;
 ghost use mathlib.Core.Path.{_≡_};
 ghost use mathlib.Core.List.{map, _++_};
-ghost use Prim.Native.Nat.{ℕ, _+_, _<_, _≤_, _^_};
-ghost use lib.Dec.{eqb};
+ghost use Prim.Native.Nat.{ℕ, _+_, _<_, _≤_, _^_, min};
 ghost use lib.ListN.{length, getD};
-ghost use Rattle.coding.specs.Lists.{first, tabulate};
+ghost use Rattle.coding.specs.Lists.{tabulate};
 ghost use Rattle.coding.specs.Word.{distance};
 ghost use Rattle.coding.specs.Matrix.{encode};
 ghost use Rattle.words.specs.Limits.{weightSlots, width};
-ghost use Rattle.weights.specs.Inner.Walked.{leastOf, Tallied, BlockWalked, Walked};
+ghost use Rattle.weights.specs.Inner.Walked.{leastOf, Tallied, SmallestOf, BlockWalked, Walked};
 
 // The rows of a block, and its codewords.
 const BLOCK_ROWS: usize = 8;
@@ -22,7 +21,10 @@ const BLOCK: usize = 256;
 // Stands for no weight: heavier than any word.
 const NO_WEIGHT: u32 = 33;
 
-// What a walk has found: how many codewords of each weight, the least weight but 0 (33 where there is none), and a word of it.
+// Stands for no word: no word is larger.
+const NO_WORD: u32 = 4294967295;
+
+// What a walk has found: how many codewords of each weight, the least weight but 0 (33 where there is none), and the smallest word of it.
 pub(crate) struct Walk {
     pub(crate) counts: [u32; WEIGHT_SLOTS],
     pub(crate) least: u32,
@@ -83,18 +85,33 @@ fn least_of(counts: &[u32]) -> u32
     j as u32
 }
 
-// The first word of weight w, or the number of words where there is none.
-fn first_of(weights: &[u32], w: u32) -> usize
-    ensures { λ r. ⌜ r ≡ first (λ i. eqb (getD (now (weights .entry)) i 0) w) (length (now (weights .entry))) ⌝ }
+// The smallest of the block's words of weight w, each with base added; no word where there is none.
+fn smallest_of(block: &[u32], base: u32, weights: &[u32], w: u32) -> u32
+    requires { ⌜ length (now weights) ≡ length (now block) ⌝ }
+    ensures { λ r. ⌜ SmallestOf (now (block .entry)) base (now (weights .entry)) w (length (now (block .entry))) r ⌝ }
 {
+    let mut best = NO_WORD;
     let mut i: usize = 0;
-    while i < weights.len() {
+    while i < block.len() {
         if weights[i] == w {
-            return i;
+            let x = block[i] ^ base;
+            if x < best {
+                best = x;
+            }
         }
         i += 1;
     }
-    i
+    best
+}
+
+// The word to hold, where x of weight w was held and y of weight least is found: the smaller, or y where it is lighter.
+fn kept(w: u32, x: u32, least: u32, y: u32) -> u32
+    ensures { λ r. ⌜ (least < w → r ≡ y) × (w ≤ least → r ≡ min x y) ⌝ }
+{
+    if least < w {
+        return y;
+    }
+    if y < x { y } else { x }
 }
 
 // The walk goes on over the block with base added; the second list is room for its weights.
@@ -108,12 +125,14 @@ fn walk_block(block: &[u32], base: u32, weights: &mut [u32], walk: Walk) -> Walk
     let mut counts = walk.counts;
     tally(weights, &mut counts);
     let least = least_of(&counts);
-    if least < walk.least {
-        let at = first_of(weights, least);
+    let before = walk.counts;
+    let w = least as usize;
+    if w < WEIGHT_SLOTS && before[w] < counts[w] {
+        let found = smallest_of(block, base, weights, least);
         return Walk {
             counts,
             least,
-            lightest: block[at] ^ base,
+            lightest: kept(walk.least, walk.lightest, least, found),
         };
     }
     Walk {

@@ -1,12 +1,12 @@
-// Part 3: weight counts, minimum distance and a lightest codeword, from one walk.
+// Part 3: weight counts, minimum distance and the lightest codeword, from one walk.
 use crate::walk::walk_all;
 use linear::accept;
 use words::answer::Answer;
 use words::limits::WEIGHT_SLOTS;
 ghost use Rattle.weights.specs.Description.{WeightsOf};
 
-// The answer to a matrix; where it is accepted, its minimum distance, how many codewords it has of each weight (0 past n), and a
-// codeword of weight dmin; 0 everywhere else.
+// The answer to a matrix; where it is accepted, its minimum distance, how many codewords it has of each weight (0 past n), and its
+// lightest codeword, the smallest of those of weight dmin; 0 everywhere else.
 pub struct Weights {
     pub answer: Answer,
     pub dmin: u32,

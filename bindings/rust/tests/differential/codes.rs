@@ -32,12 +32,36 @@ fn describe() {
                 assert_eq!(d.checks, padded(code.checks()), "{m:?}");
                 assert_eq!(d.weight_counts, padded(code.weight_counts()), "{m:?}");
                 assert_eq!(d.dmin, code.dmin(), "{m:?}");
-                assert!(d.lightest.count_ones() == d.dmin && code.codewords.contains(&d.lightest), "{m:?}");
+                assert_eq!(d.lightest, code.lightest(), "{m:?}");
             }
             (ours, theirs) => assert_eq!(ours.err(), theirs.err(), "{m:?}"),
         }
     }
     assert_eq!(seen, causes(&[0, 1, 2], &[3, 4]));
+}
+
+/// Rows exchanged and added to each other are another matrix of the same code, which has the same description.
+#[test]
+fn one_code() {
+    let mut r = Random::of("one_code");
+    let mut accepted = 0;
+    for round in 0..2000 {
+        let m = matrix(&mut r, longest(round));
+        let Ok(described) = relaymarten::describe(m.n, m.k, &m.rows) else {
+            continue;
+        };
+        let mut rows = m.rows.clone();
+        for _ in 0..4 * rows.len() {
+            let (a, b) = (r.below(rows.len()), r.below(rows.len()));
+            rows.swap(a, b);
+            if a != b {
+                rows[a] ^= rows[b];
+            }
+        }
+        assert_eq!(relaymarten::describe(m.n, m.k, &rows), Ok(described), "{m:?} and {rows:?}");
+        accepted += 1;
+    }
+    assert!(accepted > 500, "{accepted} matrices");
 }
 
 /// Every n and k to beyond the limits, with k rows of the identity.

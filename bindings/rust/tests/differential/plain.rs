@@ -63,6 +63,11 @@ impl Code {
         self.nonzero().map(u32::count_ones).min().unwrap()
     }
 
+    /// Of the nonzero codewords the lightest, of several the smallest number.
+    pub fn lightest(&self) -> u32 {
+        self.nonzero().min_by_key(|c| (c.count_ones(), *c)).unwrap()
+    }
+
     /// The leftmost ones of the codewords, rising.
     fn pivots(&self) -> Vec<u32> {
         let mut p: Vec<u32> = self.nonzero().map(u32::trailing_zeros).collect::<HashSet<_>>().into_iter().collect();

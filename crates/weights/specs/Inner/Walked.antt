@@ -3,11 +3,11 @@ use mathlib.Core.Path.{_≡_}
 use mathlib.Core.Logic.{_⊎_}
 use mathlib.Core.List.{List}
 use mathlib.Core.Bool.{not}
-use Prim.Native.Nat.{ℕ, suc, _+_, _<_}
+use Prim.Native.Nat.{ℕ, suc, _+_, _-_, _^_, _≤_, _<_}
 use lib.Dec.{eqb}
 use lib.ListN.{length, getD}
 use Rattle.coding.specs.Lists.{first}
-use Rattle.coding.specs.Word.{_⊕_, weight, distance}
+use Rattle.coding.specs.Word.{_⊕_, weight}
 use Rattle.coding.specs.Matrix.{encode}
 use Rattle.coding.specs.Weight.{count}
 use Rattle.words.specs.Limits.{weightSlots, width}
@@ -22,18 +22,27 @@ pub record Tallied (weights before after : List ℕ) : Type 0 where
 abbrev pub leastOf : List ℕ → ℕ
 leastOf counts = suc (first (λ j. not (eqb (getD counts (suc j) 0) 0)) width)
 
--- the words of a block, each with base added, have been counted; the lightest word is the one before, or one of these
-pub record BlockWalked (block : List ℕ) (base : ℕ) (before after : Walk) : Type 0 where
-  pub size : length (after .counts) ≡ weightSlots
-  pub grown : (j : ℕ) → getD (after .counts) j 0 ≡ getD (before .counts) j 0 + count (λ i. eqb (distance (getD block i 0) base) j) (length block)
-  pub least : after .least ≡ leastOf (after .counts)
-  pub lightest :
-      ((after .least ≡ before .least) × (after .lightest ≡ before .lightest))
-      ⊎ ((i : ℕ) × (i < length block) × (after .lightest ≡ getD block i 0 ⊕ base) × (weight (after .lightest) ≡ after .least))
+-- of the block's words before m, each with base added, r is the smallest that weighs w, or 2^32 - 1 where none does
+pub record SmallestOf (block : List ℕ) (base : ℕ) (weights : List ℕ) (w m r : ℕ) : Type 0 where
+  pub each : (i : ℕ) → i < m → getD weights i 0 ≡ w → r ≤ getD block i 0 ⊕ base
+  pub one : (r ≡ 2 ^ 32 - 1) ⊎ ((i : ℕ) × (i < m) × (getD weights i 0 ≡ w) × (r ≡ getD block i 0 ⊕ base))
 
--- the codewords of the messages below m have been counted, and the lightest of those that are not 0 is held
+-- x is a codeword of weight l, the smallest of those of the messages below m
+pub record SmallestMet (rows : List ℕ) (m l x : ℕ) : Type 0 where
+  pub met : (u : ℕ) × (u < m) × (x ≡ encode rows u)
+  pub weighs : weight x ≡ l
+  pub smallest : (u : ℕ) → u < m → weight (encode rows u) ≡ l → x ≤ encode rows u
+
+-- the codewords of the messages below m have been counted, and of those that are not 0 the lightest is held, of several the smallest;
+-- before the first of them nothing is
 pub record Walked (rows : List ℕ) (m : ℕ) (w : Walk) : Type 0 where
   pub size : length (w .counts) ≡ weightSlots
   pub counts : (j : ℕ) → j < weightSlots → getD (w .counts) j 0 ≡ count (λ u. eqb (weight (encode rows u)) j) m
   pub least : w .least ≡ leastOf (w .counts)
-  pub lightest : w .least < weightSlots → (u : ℕ) × (u < m) × (w .lightest ≡ encode rows u) × (weight (w .lightest) ≡ w .least)
+  pub lightest : w .least < weightSlots → SmallestMet rows m (w .least) (w .lightest)
+
+-- a walk has gone on over a block: where its words, each with base added, are the codewords of the next messages, these are walked too
+abbrev pub BlockWalked : List ℕ → ℕ → Walk → Walk → Type 0
+BlockWalked block base before after =
+    (rows : List ℕ) (m : ℕ) → ((i : ℕ) → i < length block → getD block i 0 ⊕ base ≡ encode rows (m + i)) → Walked rows m before
+    → Walked rows (m + length block) after

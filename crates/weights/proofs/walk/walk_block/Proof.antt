@@ -1,8 +1,10 @@
--- `weights::walk::walk_block`: the block is tallied, and where the least weight has fallen a word of the block has it. Assumes nothing.
+-- `weights::walk::walk_block`: the block is tallied, and where it has a word of the least weight the smallest is kept. Assumes nothing.
 use mathlib.Core.Path.{_≡_, sym, _∙_}
-use Prim.Native.Nat.{_<_}
-use lib.ListN.{length}
-use Rattle.weights.proofs.WalkLaws.{Weighed, weights-small, weights-long, fallen-at, walk-fallen, walk-stayed}
+use mathlib.Core.Logic.{⊎-elim}
+use Prim.Native.Nat.{ℕ, _^_, _<_}
+use lib.ListN.{length, getD}
+use borrow.Author.Tests.{ltb-true, ltb-false}
+use Rattle.weights.proofs.WalkLaws.{Weighed, weights-small, weights-long, walk-kept, walk-smallest}
 use borrow.Author.Needs.{needs}
 use native.Mathlib.Omega.{arith}
 use Rattle.weights.proofs.walk.walk_block.Statement.{statement}
@@ -10,6 +12,10 @@ use Rattle.weights.proofs.walk.walk_block.Tie as tie
 
 abbrev start : tie.After-block-weights → tie.Start
 start b = b .before .before .before .before
+
+-- the block's entries are machine words
+fits : (b : tie.After-block-weights) → (i : ℕ) → i < length (start b .args .block .now) → getD (start b .args .block .now) i 0 < 2 ^ 32
+fits b i h = b .before .before .before .shared-slice-known .given i .fits
 
 -- the list of weights is as long as the block
 long : (b : tie.After-block-weights) → length (b .block-weights .last .1 .1 .0) ≡ length (start b .args .block .now)
@@ -33,34 +39,33 @@ walked m = record {
   least = m .least-of .ensures;
 }
 
-abbrev least : tie.After-first-of → tie.After-least-of
-least f = f .before .before .before .before
-
--- the word found stands in the block
-word-at : (f : tie.After-first-of) → f .first-of .result < length (start (from (least f)) .args .block .now)
-word-at f = fallen-at (walked (least f)) (f .before .before .if1 .taken) (f .first-of .ensures)
-
 tally-requires : tie.Need-tally-requires
 tally-requires c κs =
     let b = weighed c in
     let s = start b in
-    let words = weights-small (s .args .block .now) (s .args .base) (λ i h. b .before .before .before .shared-slice-known .given i .fits) in
-    (s .pre .1 .0 .0, (rw (b .block-weights .ensures) (words (s .fits .base .fits)), λ j. rw (long b) (s .pre .1 .1 j)))
+    let small = weights-small (s .args .block .now) (s .args .base) (fits b) (s .fits .base .fits) in
+    (s .pre .1 .0 .0, (rw (b .block-weights .ensures) small, λ j. rw (long b) (s .pre .1 .1 j)))
 
 returns : tie.Need-returns
 returns c =
     let f = c .before in
-    let m = least f in
-    (walk-fallen (walked m) (f .before .before .if1 .taken) (f .first-of .ensures), long (from m) ∙ sym (start (from m) .pre .0))
+    let t = f .before .before in
+    let m = t .before .before .before in
+    let s = start (from m) in (
+      walk-smallest (walked m) (fits (from m)) (s .fits .base .fits) (ltb-true _ _ (t .if2 .taken)) (f .smallest-of .ensures) (c .kept .ensures),
+      long (from m) ∙ sym (s .pre .0),
+    )
 
 returns-2 : tie.Need-returns-2
 returns-2 c =
-    let m = c .before .before in
-    (walk-stayed (walked m) (c .if1 .left), long (from m) ∙ sym (start (from m) .pre .0))
+    let m = c .before .before in (
+      walk-kept (walked m) (λ l. ⊎-elim (λ w. ltb-false _ _ (w .1 .left)) (λ w. absurd (omega (arith, w .left))) (c .if1 .came)),
+      long (from m) ∙ sym (start (from m) .pre .0),
+    )
 
 pub walk-block-spec : {M : Type 1} → statement M
 walk-block-spec =
     tie.close
-    (tie.spec (λ c κs. search needs) tally-requires (λ c. search needs) (λ c κs. search needs) (λ c κs. search needs)
-    (λ c. record { fits = omega (arith, word-at c, start (from (least c)) .pre .1 .1 0) }) (λ c. word-at (c .before)) (λ c. search needs) returns
+    (tie.spec (λ c κs. search needs) tally-requires (λ c. search needs) (λ c κs. search needs) (λ c. search needs) (λ c. search needs)
+    (λ c. search needs) (λ c. search needs) (λ c. search needs) (λ c κs. search needs) (λ c κs. search needs) (λ c. search needs) returns
     (λ c. search needs) returns-2)
