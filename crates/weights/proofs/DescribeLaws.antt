@@ -31,7 +31,7 @@ use Rattle.weights.specs.Description.{WeightsOf}
 use Rattle.weights.specs.declared.weights.Weights.{Weights}
 use Rattle.weights.specs.Inner.Walked.{Walked}
 use Rattle.weights.specs.declared.walk.Walk.{Walk}
-use Rattle.weights.proofs.WalkLaws.{least-found}
+use Rattle.weights.proofs.BlockLaws.{least-found}
 
 module _ (n k : ℕ) (rows : List ℕ) (A : Accepted n k rows) (w : Walk) (W : Walked rows (2 ^ length rows) w) where
   D : MinimumDistance n rows (dmin rows)

@@ -1,2 +1,3 @@
+pub mod BlockLaws  -- one block of the walk
 pub mod WalkLaws  -- the walk, block by block
 pub mod DescribeLaws  -- what a finished walk tells

@@ -4,7 +4,7 @@ use mathlib.Core.Bool.{not}
 use Prim.Native.Nat.{ℕ, suc, _+_, _-_}
 use borrow.Author.Tests.{eq-eqb, ne-eqb}
 use Rattle.coding.proofs.LoopLaws.{Searched, search-start, search-next, search-hit, search-end}
-use Rattle.weights.proofs.WalkLaws.{counted}
+use Rattle.weights.proofs.BlockLaws.{counted}
 use borrow.Author.Needs.{needs}
 use native.Mathlib.Omega.{arith}
 use Rattle.weights.proofs.walk.least_of.Statement.{statement}

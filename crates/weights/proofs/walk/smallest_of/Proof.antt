@@ -4,7 +4,7 @@ use mathlib.Core.Logic.{⊎-elim}
 use Prim.Native.Nat.{_≤_, _-_}
 use lib.ListN.{length}
 use Rattle.weights.specs.Inner.Walked.{SmallestOf}
-use Rattle.weights.proofs.WalkLaws.{smallest-start, smallest-keep, smallest-take}
+use Rattle.weights.proofs.BlockLaws.{smallest-start, smallest-keep, smallest-take}
 use borrow.Author.Needs.{needs}
 use native.Mathlib.Omega.{arith}
 use Rattle.weights.proofs.walk.smallest_of.Statement.{statement}
@@ -22,7 +22,8 @@ loop-again c =
     let S = i .before .loop .inv .1 in (
       omega (arith, i .loop-test .taken),
       ⊎-elim (λ w. rw (w .3) (smallest-take S (w .0 .taken) (w .2 .taken)))
-          (⊎-elim (λ w. rw (w .3) (smallest-keep S (λ _. w .2 .left))) (λ w. rw (w .1) (smallest-keep S (λ e. absurd (w .0 .left e))))) (c .if1 .came),
+          (⊎-elim (λ w. rw (w .3) (smallest-keep S (λ _. w .2 .left)))
+          (λ w. rw (w .1) (smallest-keep S (λ e. absurd (w .0 .left e))))) (c .if1 .came),
     )
 
 returns : tie.Need-returns Inv-loop μ-loop
@@ -34,5 +35,5 @@ returns c =
 pub smallest-of-spec : {M : Type 1} → statement M
 smallest-of-spec =
     tie.close
-    (tie.spec Inv-loop μ-loop (λ c. (search needs, smallest-start _ _ _ _)) (λ c. search needs) (λ c. search needs) (λ c. search needs) (λ c. search needs)
-    (λ c. search needs) (λ c. search needs) loop-again returns)
+    (tie.spec Inv-loop μ-loop (λ c. (search needs, smallest-start _ _ _ _)) (λ c. search needs) (λ c. search needs) (λ c. search needs)
+    (λ c. search needs) (λ c. search needs) (λ c. search needs) loop-again returns)

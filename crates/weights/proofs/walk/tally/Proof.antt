@@ -1,7 +1,7 @@
 -- `weights::walk::tally`: each count has grown by the words before i of that weight. Assumes nothing.
 use Prim.Native.Nat.{_<_, _-_}
 use lib.ListN.{length, getD}
-use Rattle.weights.proofs.WalkLaws.{Tallying, tally-start, tally-fits, tally-step, tally-end}
+use Rattle.weights.proofs.BlockLaws.{Tallying, tally-start, tally-fits, tally-step, tally-end}
 use borrow.Author.Needs.{needs}
 use native.Mathlib.Omega.{arith}
 use Rattle.weights.proofs.walk.tally.Statement.{statement}

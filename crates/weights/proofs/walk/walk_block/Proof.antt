@@ -4,7 +4,7 @@ use mathlib.Core.Logic.{⊎-elim}
 use Prim.Native.Nat.{ℕ, _^_, _<_}
 use lib.ListN.{length, getD}
 use borrow.Author.Tests.{ltb-true, ltb-false}
-use Rattle.weights.proofs.WalkLaws.{Weighed, weights-small, weights-long, walk-kept, walk-smallest}
+use Rattle.weights.proofs.BlockLaws.{Weighed, weights-small, weights-long, walk-kept, walk-smallest}
 use borrow.Author.Needs.{needs}
 use native.Mathlib.Omega.{arith}
 use Rattle.weights.proofs.walk.walk_block.Statement.{statement}
