@@ -16,7 +16,7 @@ use Rattle.coding.specs.Matrix.{encode, Codeword, Inside, Independent}
 use Rattle.coding.specs.Weight.{low, dmin, MinimumDistance}
 use Rattle.coding.proofs.WordLaws.{xor-eq}
 use Rattle.coding.proofs.WeightLaws.{weight-none}
-use Rattle.coding.proofs.MatrixLaws.{encode-xor, encode-zero, encode-lt, codeword-zero}
+use Rattle.coding.proofs.MatrixLaws.{encode-xor, encode-zero, codeword-lt, codeword-zero}
 
 -- ---- the least of f 0 to f m
 
@@ -64,7 +64,7 @@ module _ (n : ℕ) (rs : List ℕ) (fits : Inside n rs) (ind : Independent rs) (
   pub minimum-distance : MinimumDistance n rs (dmin rs)
   minimum-distance =
       let (w, c, ne, e) = dmin-has in
-      let below : w < 2 ^ n = rw (c .2) (encode-lt n rs fits (c .0)) in
+      let below : w < 2 ^ n = codeword-lt n rs fits w c in
       let light : weight w ≤ n = ones-le n w below in
       let some : weight w ≢ 0 = λ z. ne (weight-none w z) in
       record {

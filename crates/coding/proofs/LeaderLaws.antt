@@ -17,7 +17,7 @@ use Rattle.coding.specs.Check.{check, checks, frees}
 use Rattle.coding.specs.Leader.{syndromeOf, IsLeader, noLeader, having, leaderOf}
 use Rattle.coding.specs.Lightest.{lightestBelow, orElse}
 use Rattle.coding.proofs.WordLaws.{xor-eq}
-use Rattle.coding.proofs.MatrixLaws.{encode-lt}
+use Rattle.coding.proofs.MatrixLaws.{codeword-lt}
 use Rattle.coding.proofs.CheckLaws.{syndrome-xor, syndrome-lt}
 use Rattle.coding.proofs.ReduceLaws.{whole}
 use Rattle.coding.proofs.CheckRowLaws.{syndrome-codeword}
@@ -29,9 +29,6 @@ abbrev pub nearestOf : ℕ → List ℕ → ℕ → ℕ
 nearestOf n rows w = w ⊕ leaderOf n rows (syndromeOf n rows w)
 
 module _ (n : ℕ) (rs : List ℕ) (fits : Inside n rs) where
-  pub codeword-lt : (w : ℕ) → Codeword rs w → w < 2 ^ n
-  codeword-lt w (u, h, e) = rw e (encode-lt n rs fits u)
-
   -- every syndrome has a leader, no heavier than the syndrome
   pub leader-lightest : (s : ℕ) → s < 2 ^ length (frees n rs) → IsLightest (having (syndromeOf n rs) s) (2 ^ n) (leaderOf n rs s)
   leader-lightest s h = go (lightestBelow (having (syndromeOf n rs) s) (2 ^ n)) (found (having (syndromeOf n rs) s) (2 ^ n))
@@ -60,7 +57,8 @@ module _ (n : ℕ) (rs : List ℕ) (fits : Inside n rs) where
       × ((c : ℕ) → Codeword rs c → distance w (nearestOf n rs w) ≤ distance w c)
   near-is w h =
       nearest n (syndromeOf n rs) (syndrome-xor (checks n rs)) (Codeword rs)
-      (λ v l e. syndrome-codeword n rs fits v l .0 e) (λ v c. (codeword-lt v c, syndrome-codeword n rs fits v (codeword-lt v c) .1 c))
+      (λ v l e. syndrome-codeword n rs fits v l .0 e)
+      (λ v c. let h = codeword-lt n rs fits v c in (h, syndrome-codeword n rs fits v h .1 c))
       w (leaderOf n rs (syndromeOf n rs w)) h (leader-lightest (syndromeOf n rs w) (syndromeOf-lt w))
 
   -- two words have the same syndrome exactly when they stand in the same row of the standard array

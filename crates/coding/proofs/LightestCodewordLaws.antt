@@ -15,7 +15,7 @@ use Rattle.coding.specs.Lightest.{lightestBelow, orElse}
 use Rattle.coding.specs.Weight.{dmin, MinimumDistance, nonzeroCodeword, lightestCodeword, Lightest}
 use Rattle.coding.proofs.TestLaws.{and-left, and-right}
 use Rattle.coding.proofs.SearchLaws.{true-false, codeword-test, codeword-fails}
-use Rattle.coding.proofs.MatrixLaws.{encode-lt}
+use Rattle.coding.proofs.MatrixLaws.{codeword-lt}
 use Rattle.coding.proofs.LightestLaws.{IsLightest, Found, found, lightest-one, lightest-same}
 
 -- ---- the test, in words
@@ -38,7 +38,7 @@ module _ (rows : List ℕ) (w : ℕ) where
 
 module _ (n : ℕ) (rows : List ℕ) (fits : Inside n rows) (D : MinimumDistance n rows (dmin rows)) where
   inside : (w : ℕ) → Codeword rows w → w < 2 ^ n
-  inside w (u, h, e) = rw e (encode-lt n rows fits u)
+  inside = codeword-lt n rows fits
 
   searched : (x : ℕ) → Lightest rows x → IsLightest (nonzeroCodeword rows) (2 ^ n) x
   searched x L = record {

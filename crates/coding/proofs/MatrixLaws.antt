@@ -46,6 +46,9 @@ encode-lt n [] f u = pow-pos n
 encode-lt n (r ∷ rs) f u =
     xor-lt n (sel (u % 2) r) (encode rs (u / 2)) (sel-lt n (u % 2) r (f 0 (omega arith))) (encode-lt n rs (λ i h. f (suc i) (suc-le-suc h)) (u / 2))
 
+pub codeword-lt : (n : ℕ) (rs : List ℕ) → Inside n rs → (w : ℕ) → Codeword rs w → w < 2 ^ n
+codeword-lt n rs f w (u, h, e) = rw e (encode-lt n rs f u)
+
 -- ---- a loop over the rows: w is the sum so far, and the rows from i on with the places of m are still to come
 
 encode-drop : (rs : List ℕ) (i m : ℕ) → i < length rs → encode (drop i rs) m ≡ sel (m % 2) (getD rs i 0) ⊕ encode (drop (i + 1) rs) (m / 2)

@@ -15,7 +15,7 @@ use Rattle.coding.specs.Matrix.{encode, Codeword, IsMessage, messageOf}
 use Rattle.coding.specs.Radius.{RadiusRules}
 use Rattle.coding.specs.Inner.SystematicSyndrome.{systematicSyndrome}
 use Rattle.coding.proofs.WeightLaws.{weight-zero}
-use Rattle.coding.proofs.LeaderLaws.{codeword-lt}
+use Rattle.coding.proofs.MatrixLaws.{codeword-lt}
 use Rattle.coding.proofs.SystematicLaws.{systematic-syndrome, systematic-syndrome-xor, systematic-message, systematic-codeword}
 use Rattle.coding.proofs.SearchLaws.{codeword-test, codeword-fails}
 use Rattle.words.specs.declared.answer.Refusal.the-variants.{WordOutside, NoCodeword}

@@ -1,6 +1,6 @@
 // Document 01's starred cases as one table (specs/Starred.antt), its sheets with document 02's closing line as another
-// (specs/Sheets.antt), the lightest codewords of its codes as a third (specs/LightestCodewords.antt), proved by computation on the
-// definitions that the contracts cite.
+// (specs/Sheets.antt), the lightest codewords of its codes as a third (specs/LightestCodewords.antt), proved over the definitions that
+// the contracts cite, nearly all by computation.
 ghost use Rattle.starred.specs.Starred.{Starred};
 ghost use Rattle.starred.specs.Sheets.{Sheets};
 ghost use Rattle.starred.specs.LightestCodewords.{LightestCodewords};
