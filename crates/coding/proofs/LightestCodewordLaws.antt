@@ -23,8 +23,8 @@ use Rattle.coding.proofs.LightestLaws.{IsLightest, Found, found, lighte
 module _ (rows : List ℕ) (w : ℕ) where
   says : T (nonzeroCodeword rows w) → Codeword rows w × (w ≢ 0)
   says t = (
-    codeword-test rows w .0 (is-true (isCodeword rows w) (and-left (isCodeword rows w) (not (eqb w 0)) t)),
-    λ z. T-not (eqb w 0) (and-right (isCodeword rows w) (not (eqb w 0)) t) (rw z (eqb-refl 0)),
+    codeword-test rows w .0 (is-true (isCodeword rows w) (and-left (isCodeword rows w) _ t)),
+    λ z. T-not (eqb w 0) (and-right (isCodeword rows w) _ t) (rw z (eqb-refl 0)),
   )
     where
       is-true : (b : Bool) → T b → b ≡ true
