@@ -6,11 +6,11 @@ use mathlib.Core.List.{List, [], _∷_, _++_}
 use Prim.Native.Nat.{ℕ, zero, suc, _+_, _^_, _≤_, _<_}
 use native.Mathlib.Nat.{le-refl, suc-ne-zero, suc-inj}
 use native.Mathlib.Numerals.{add-one}
-use native.Mathlib.Decide.{ℕ-discrete}
 use native.Mathlib.Omega.{arith}
 use lib.ListN.{length, getD, take}
 use lib.Seq.{take-suc, take-length}
 use lib.Count.{trailingZeros}
+use borrow.Author.Count.{below-more}
 use Rattle.coding.specs.Lists.{zeros}
 use Rattle.coding.specs.Word.{bit}
 use Rattle.coding.specs.Matrix.{Inside, Independent, Depends}
@@ -122,8 +122,4 @@ module _ (n : ℕ) (rs : List ℕ) (fits : Inside n rs) (i : ℕ) (h : i < lengt
         ∙ ap (addTo n (reduce n (take i rs))) is-rest ∙ sym (reduce-take n rs i h) ∙ ap (λ (k : ℕ). reduce n (take k rs)) (sym (add-one i))
 
     pub none-more : x ≢ 0 → ((j : ℕ) → j < i → Depends rs j → ⊥) → (j : ℕ) → j < i + 1 → Depends rs j → ⊥
-    none-more ne f j l d = go (ℕ-discrete j i)
-      where
-        go : Dec (j ≡ i) → ⊥
-        go (yes e) = row-goes ne (rw e at d)
-        go (no k) = f j (omega arith) d
+    none-more ne f = below-more (λ j. Depends rs j → ⊥) i f (row-goes ne)

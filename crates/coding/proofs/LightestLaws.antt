@@ -1,14 +1,14 @@
 -- Laws of the search for the lightest: it finds one where there is any, and there is one at most; and a word plus the lightest
 -- word of its syndrome is a nearest codeword. Assumes nothing.
 use mathlib.Core.Path.{_≡_, refl, sym, ap, ap₂, _∙_}
-use mathlib.Core.Logic.{⊎-elim}
 use mathlib.Core.Option.{Option, none, some}
 use mathlib.Core.Bool.{Bool, true, false, cond}
 use Prim.Native.Nat.{ℕ, zero, suc, _^_, _≤_, _<_}
-use native.Mathlib.Nat.{le-refl, eq-or-lt-of-le, le-of-suc-le-suc, le-antisymm}
+use native.Mathlib.Nat.{le-refl, le-antisymm}
 use native.Mathlib.Omega.{arith}
 use lib.Dec.{T, ltb, ltb→lt, nltb→le, eqb→eq, eqb-refl}
 use lib.Bits.{xor-lt, xor-self, xor-zero-r}
+use borrow.Author.Count.{below-more}
 use Rattle.coding.specs.Word.{_⊕_, weight, distance}
 use Rattle.coding.specs.Lightest.{merge, lightestBelow}
 use Rattle.coding.specs.Leader.{having}
@@ -16,7 +16,7 @@ use Rattle.coding.proofs.WordLaws.{xor-cancel}
 
 -- what holds of each number below m, and of m
 last : (Q : ℕ → Type 0) {m : ℕ} → ((v : ℕ) → v < m → Q v) → Q m → (v : ℕ) → v < suc m → Q v
-last Q f q v h = ⊎-elim (λ e. rw e q) (λ l. f v l) (eq-or-lt-of-le (le-of-suc-le-suc h))
+last Q {m} f q v h = below-more Q m f q v (omega arith)
 
 pub record IsLightest (p : ℕ → Bool) (m b : ℕ) : Type 0 where
   pub passes : T (p b)

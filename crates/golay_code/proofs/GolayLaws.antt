@@ -87,14 +87,15 @@ codeword-heavy u =
     (rw (xor-zero-r (encode golayRows u)) at (every-sum heavy golayRows 0 (rw checks-are all-heavy) u))
 
 -- row 0 weighs 8
-row-weight : weight (encode (systematic 12 checkWords) 1) ≡ 8
+pub row-weight : weight (encode golayRows 1) ≡ 8
 unfolding onesIn checkWords
-row-weight = sym (weight-in 24 (encode (systematic 12 checkWords) 1) (lit< tt))
+row-weight =
+    ap (λ (l : List ℕ). weight (encode (systematic 12 l) 1)) checks-are
+    ∙ sym (weight-in 24 (encode (systematic 12 checkWords) 1) (lit< tt))
 
 pub golay-dmin : dmin golayRows ≡ 8
 golay-dmin =
-    le-antisymm (rw (ap (λ (l : List ℕ). weight (encode (systematic 12 l) 1)) checks-are ∙ row-weight) at
-    (dmin-le golayRows 1 (rw (golay-accepted .count) (lit< tt)) (suc-ne-zero 0)))
+    le-antisymm (rw row-weight at (dmin-le golayRows 1 (rw (golay-accepted .count) (lit< tt)) (suc-ne-zero 0)))
     (go (dmin-hit golayRows (rw (golay-accepted .count) (lit≤ tt))))
   where
     go : (u : ℕ) × (u < 2 ^ length golayRows) × (u ≢ 0) × (dmin golayRows ≡ weight (encode golayRows u)) → 8 ≤ dmin golayRows

@@ -1,28 +1,23 @@
 -- The value of the table of lightest codewords: by computation, and that of G from its rows. Assumes nothing.
-use mathlib.Core.Path.{_≡_, refl, sym, _∙_}
+use mathlib.Core.Path.{_≡_, refl, sym, ap, _∙_}
 use mathlib.Core.Logic.{_≢_}
 use Prim.Native.Nat.{ℕ, zero, suc, _^_, _≤_, _<_}
 use native.Mathlib.Omega.{arith}
 use lib.Dec.{lit<}
-use lib.Count.{ones, onesIn}
+use lib.Count.{ones}
 use Rattle.coding.specs.Word.{weight}
 use Rattle.coding.specs.Matrix.{encode, messageOf}
 use Rattle.coding.specs.Weight.{lightestCodeword, Lightest}
-use Rattle.coding.proofs.WeightLaws.{weight-in}
 use Rattle.coding.proofs.MatrixLaws.{encode-zero}
 use Rattle.coding.proofs.SystematicLaws.{systematic-codeword}
 use Rattle.coding.proofs.LightestCodewordLaws.{lightest-only}
 use Rattle.golay_code.specs.Golay.{golayChecks, golayRows}
-use Rattle.golay_code.proofs.GolayLaws.{golay-size, golay-inside, golay-accepted, golay-dmin, golay-distance}
+use Rattle.golay_code.proofs.GolayLaws.{golay-size, golay-inside, golay-accepted, row-weight, golay-dmin, golay-distance}
 use Rattle.starred.specs.LightestCodewords.{LightestCodewords}
 
 row-zero : encode golayRows 1 ≡ 0x1B71
 unfolding golayChecks
 row-zero = refl
-
-row-weight : weight 0x1B71 ≡ 8
-unfolding onesIn
-row-weight = sym (weight-in 24 0x1B71 (lit< tt))
 
 -- the places of the message stand above those of the checks, so that the codewords rise with their messages
 no-smaller : (u : ℕ) → u < 2 ^ 12 → encode golayRows u ≢ 0 → 0x1B71 ≤ encode golayRows u
@@ -34,7 +29,7 @@ golay-lightest : Lightest golayRows 0x1B71
 golay-lightest = record {
   codeword = (1, rw (golay-accepted .count) (lit< tt), sym row-zero);
   nonzero = λ z. omega (arith, z);
-  weighs = row-weight ∙ sym golay-dmin;
+  weighs = ap weight (sym row-zero) ∙ row-weight ∙ sym golay-dmin;
   smallest = λ v (u, h, e) ne q. rw e (no-smaller u (rw (golay-accepted .count) at h) (λ z. ne (e ∙ z)));
 }
 

@@ -13,6 +13,7 @@ use lib.ListN.{length, getD, set, length-set, length-map}
 use lib.Seq.{getD-set-same, getD-set-other}
 use lib.Bits.{xor-lt}
 use lib.Count.{ones-le}
+use borrow.Author.Count.{below-more}
 use borrow.Author.Tests.{eq-eqb, ne-eqb, eqb-true, eqb-false, not-true, not-false}
 use Rattle.coding.specs.Lists.{first}
 use Rattle.coding.specs.Word.{_⊕_, weight, distance}
@@ -98,11 +99,7 @@ module _ {block : List ℕ} {base : ℕ} {ws : List ℕ} {w m r : ℕ} (S : Smal
   -- one word more is looked at; x is no larger than the one found, nor than this one where it has the weight
   each-to : (x : ℕ) → x ≤ r → (getD ws m 0 ≡ w → x ≤ getD block m 0 ⊕ base)
       → (i : ℕ) → i < m + 1 → getD ws i 0 ≡ w → x ≤ getD block i 0 ⊕ base
-  each-to x h f i k q = go (decLe (suc i) m)
-    where
-      go : Dec (i < m) → x ≤ getD block i 0 ⊕ base
-      go (yes l) = le-trans h (S .each i l q)
-      go (no l) = let e : i ≡ m = omega arith in rw e (f (rw e at q))
+  each-to x h f = below-more (λ i. getD ws i 0 ≡ w → x ≤ getD block i 0 ⊕ base) m (λ i l q. le-trans h (S .each i l q)) f
 
   pub smallest-keep : (getD ws m 0 ≡ w → r ≤ getD block m 0 ⊕ base) → SmallestOf block base ws w (m + 1) r
   smallest-keep f = record {
