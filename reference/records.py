@@ -27,7 +27,8 @@ OPERATIONS = {'sum': 1, 'weight': 2, 'distance': 3, 'parity': 4, 'place': 5, 'se
               'accept': 10, 'reduced': 11, 'checks': 12, 'row sum': 13, 'weights': 14, 'describe': 15,
               'encode': 20, 'message': 21, 'nearest': 22, 'within': 23, 'again': 24,
               'Golay encode': 30, 'Golay decode': 31, 'Golay message': 32, 'Golay messages': 33, 'Golay patterns': 34,
-              '(72,64) encode': 40, '(72,64) decode': 41, '(72,64) counts': 42, '(72,64) changes': 43}
+              '(72,64) encode': 40, '(72,64) decode': 41, '(72,64) counts': 42, '(72,64) changes': 43,
+              'width encode': 50, 'width decode': 51, 'width counts': 52, 'width changes': 53}
 
 
 def record(name, n, k, x, rows, rest, printed):

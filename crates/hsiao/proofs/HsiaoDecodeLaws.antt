@@ -1,5 +1,5 @@
--- What Decode promises of a word, over any number of check places and any columns of the rule: the radius rules at 1, clean and far.
--- Assumes nothing.
+-- What Encode and Decode promise, over any number of check places and any columns of the rule: the check bits, the radius rules at 1, clean
+-- and far. Assumes nothing.
 use mathlib.Core.Path.{_≡_, refl, sym, ap, _∙_}
 use mathlib.Core.Logic.{_↔_, _⊎_, inl, inr}
 use mathlib.Core.List.{List}
@@ -9,26 +9,23 @@ use native.Mathlib.Decide.{decLe}
 use native.Mathlib.Omega.{arith}
 use lib.Dec.{eqb, ltb, lit≤}
 use lib.ListN.{length, getD}
-use borrow.Author.Tests.{eqb-true, eqb-false, ltb-true, ltb-false, eq-eqb}
+use lib.Pow.{pow-mono}
+use borrow.Author.Tests.{eqb-true, eqb-false, ltb-true, ltb-false, lt-ltb, le-ltb}
+use Rattle.coding.specs.Matrix.{encode, Inside}
 use Rattle.coding.specs.Radius.{RadiusRules}
-use Rattle.coding.specs.Columns.{SplitWord, splitDistance, units, splitSyndrome, columnPlace, SplitPlaces, SplitCodeword, OddColumns}
-use Rattle.coding.proofs.SearchLaws.{first-hit, first-upto}
+use Rattle.coding.specs.Columns.{SplitWord, splitDistance, units, splitSyndrome, columnPlace, SplitPlaces, SplitCodeword, OddColumns, SplitMinimumDistance}
 use Rattle.coding.proofs.ListLaws.{length-tabulate, getD-tabulate}
 use Rattle.coding.proofs.RadiusLaws.{radius-found}
-use Rattle.coding.proofs.ColumnLaws.{split-discrete, split-distance-sym, split-distance-tri, split-distance-self, four-apart, IsColumn, check-changed-distance, info-changed-distance, mend-check, mend-info, near-syndrome}
+use Rattle.coding.proofs.ColumnLaws.{check-is, encoded-codeword, split-discrete, split-distance-sym, split-distance-tri, split-distance-self, four-apart, IsColumn, check-changed-distance, info-changed-distance, mend-check, mend-info, near-syndrome}
 use Rattle.hsiao.specs.Table.{split}
 use Rattle.hsiao.specs.Outcome.{withCheck, withData, outcomeAt, outcomeBy, wordIn, countIn}
+use Rattle.hsiao.specs.Encoded.{EncodedBy}
+use Rattle.hsiao.specs.Decoded.{DecodedBy}
 use Rattle.hsiao.specs.declared.word.Word.{Word}
+use Rattle.hsiao.specs.declared.decoding.Decoding.{Decoding}
 use Rattle.hsiao.specs.declared.outcomes.Outcome.{Outcome}
 use Rattle.hsiao.specs.declared.outcomes.Outcome.the-variants.{Clean, Mended, Far}
-
--- the place found has the column s
-place-column : (cols : List ℕ) (s : ℕ) → columnPlace cols s < length cols → s ≡ getD cols (columnPlace cols s) 0
-place-column cols s h = sym (eqb-true _ _ (first-hit (λ i. eqb (getD cols i 0) s) (length cols) h))
-
--- a place that has the column s is not before the one found
-place-upto : (cols : List ℕ) (s i : ℕ) → i < length cols → s ≡ getD cols i 0 → columnPlace cols s ≤ i
-place-upto cols s i h e = first-upto (λ j. eqb (getD cols j 0) s) (length cols) i h (eq-eqb (getD cols i 0) s (sym e))
+use Rattle.hsiao.proofs.PlaceLaws.{place-column, place-upto}
 
 module _ (c : ℕ) where
   units-length : length (units c) ≡ c
@@ -39,6 +36,39 @@ module _ (c : ℕ) where
 
   unit-upto : (s j : ℕ) → j < c → s ≡ 2 ^ j → columnPlace (units c) s ≤ j
   unit-upto s j h e = place-upto (units c) s j (omega (arith, h, units-length)) (e ∙ sym (getD-tabulate (λ i. 2 ^ i) c j h))
+
+-- a syndrome within c check places ends a word alike for c check places and for more
+module _ (c d : ℕ) (l : c ≤ d) (s : ℕ) (h : s < 2 ^ c) where
+  fewer-place : columnPlace (units d) s < d → columnPlace (units d) s < c
+  fewer-place k = go (decLe c (columnPlace (units d) s))
+    where
+      go : Dec (c ≤ columnPlace (units d) s) → columnPlace (units d) s < c
+      go (yes q) = absurd (omega (arith, h, unit-place d s k, pow-mono q))
+      go (no q) = omega arith
+
+  pub fewer-checks : (cols : List ℕ) (w : Word) → outcomeAt d cols w s ≡ outcomeAt c cols w s
+  fewer-checks cols w = go (ltb (columnPlace (units c) s) c) refl
+    where
+      go : (b : Bool) → ltb (columnPlace (units c) s) c ≡ b
+          → outcomeAt d cols w s
+          ≡ cond (eqb s 0) (Clean w)
+          (cond b (Mended (withCheck w (columnPlace (units c) s)) 1)
+          (cond (ltb (columnPlace cols s) (length cols)) (Mended (withData w (columnPlace cols s)) 1) Far))
+      go true e =
+          let p : columnPlace (units c) s < c = ltb-true (columnPlace (units c) s) c e in
+          let u : columnPlace (units d) s ≤ columnPlace (units c) s = unit-upto d s (columnPlace (units c) s) (omega (arith, p, l)) (unit-place c s p) in
+          let v : columnPlace (units d) s < c = omega (arith, u, p) in
+          let q : columnPlace (units d) s ≡ columnPlace (units c) s =
+          omega (arith, u, unit-upto c s (columnPlace (units d) s) v (unit-place d s (omega (arith, v, l)))) in
+          rw (q, lt-ltb (columnPlace (units c) s) d (omega (arith, p, l)))
+      go false e = rw (le-ltb (columnPlace (units d) s) d (none (decLe d (columnPlace (units d) s))))
+        where
+          none : Dec (d ≤ columnPlace (units d) s) → d ≤ columnPlace (units d) s
+          none (yes k) = k
+          none (no k) =
+              let p : columnPlace (units d) s < d = omega (arith, k) in
+              let v : columnPlace (units d) s < c = fewer-place p in
+              absurd (omega (arith, v, ltb-false (columnPlace (units c) s) c e, unit-upto c s (columnPlace (units d) s) v (unit-place d s p)))
 
 -- the outcome by the three tests: no error, the column of check place j, that of data place i
 abbrev tested : Word → ℕ → ℕ → Bool → Bool → Bool → Outcome
@@ -92,7 +122,7 @@ module _ (c : ℕ) (cols : List ℕ) (K : OddColumns c cols) (w : Word) (P : Spl
           beyond b B (yes l) = absurd (none e₀ e₁ e₂ (near-syndrome c cols (split w) P b B l))
           beyond b B (no l) = omega arith
 
-  pub radius-one : RadiusRules SplitWord (SplitCodeword c cols) splitDistance 4 1 (split w)
+  radius-one : RadiusRules SplitWord (SplitCodeword c cols) splitDistance 4 1 (split w)
       (split (wordIn (outcomeBy c cols w) w))
       (countIn (outcomeBy c cols w)) (countIn (outcomeBy c cols w) ≡ 255)
   radius-one =
@@ -105,7 +135,7 @@ module _ (c : ℕ) (cols : List ℕ) (w : Word) (s : ℕ) where
   abbrev Told : Outcome → Type 0
   Told o = ((countIn o ≡ 0) ↔ (o ≡ Clean w)) × ((countIn o ≡ 255) ↔ (o ≡ Far))
 
-  pub told : Told (outcomeAt c cols w s)
+  told : Told (outcomeAt c cols w s)
   told = go (eqb s 0) (ltb (columnPlace (units c) s) c) (ltb (columnPlace cols s) (length cols))
     where
       clash : (o : Outcome) (m n : ℕ) → countIn o ≡ m → (m ≡ n → ⊥) → (p : Outcome) → countIn p ≡ n → (countIn o ≡ n) ↔ (o ≡ p)
@@ -122,3 +152,23 @@ module _ (c : ℕ) (cols : List ℕ) (w : Word) (s : ℕ) where
       go false true b₂ = mended (withCheck w (columnPlace (units c) s))
       go false false true = mended (withData w (columnPlace cols s))
       go false false false = (clash Far 255 0 refl (λ z. absurd (omega (arith, z))) (Clean w) refl, ((λ _. refl), λ _. refl))
+
+-- ---- what is promised
+
+pub encoded-by : (c : ℕ) (cols : List ℕ) → Inside c cols → {x r : ℕ} → x < 2 ^ length cols → r ≡ encode cols x → EncodedBy c cols x r
+encoded-by c cols f {x} h e = record {
+  sum = e;
+  codeword = rw e (encoded-codeword c cols f x h);
+  only = λ b B. check-is c cols (record { check = b; info = x }) B ∙ sym e;
+}
+
+pub decoded-by : (c : ℕ) (cols : List ℕ) → OddColumns c cols → SplitMinimumDistance c cols 4 → (w : Word) → SplitPlaces c cols (split w)
+    → (r : Decoding) → r .word ≡ wordIn (outcomeBy c cols w) w → r .count ≡ countIn (outcomeBy c cols w) → DecodedBy c cols w r
+decoded-by c cols K m w P r f g = record {
+  word = f;
+  count = g;
+  minimum = m;
+  within = rw (f, g) (radius-one c cols K w P);
+  clean = rw g (told c cols w (splitSyndrome c cols (split w)) .0);
+  far = rw g (told c cols w (splitSyndrome c cols (split w)) .1);
+}

@@ -3,19 +3,20 @@
 use mathlib.Core.Path.{_≡_, refl, sym, ap, _∙_}
 use mathlib.Core.Logic.{_≢_}
 use mathlib.Core.Bool.{Bool, true, false, cond, _&&_}
+use mathlib.Core.List.{List}
 use Prim.Native.Nat.{ℕ, zero, suc, _-_, _^_, _<_}
 use native.Mathlib.Decide.{ℕ-discrete}
 use native.Mathlib.Omega.{arith}
 use lib.Dec.{T, eqb, ltb, eqb→eq}
 use lib.Bits.{bitAnd}
+use lib.ListN.{length}
 use borrow.Author.Tests.{eq-eqb, ne-eqb, ltb-true}
 use Rattle.coding.specs.Word.{_⊕_}
 use Rattle.coding.specs.Columns.{units, columnPlace}
-use Rattle.hsiao.specs.Table.{columns}
 use Rattle.hsiao.specs.Outcome.{withData, outcomeAt}
+use Rattle.hsiao.specs.Inner.Number.{columnNumber}
 use Rattle.hsiao.specs.declared.word.Word.{Word}
 use Rattle.hsiao.specs.declared.outcomes.Outcome.the-variants.{Mended, Far}
-use Rattle.hsiao.proofs.HsiaoTableLaws.{columns-length}
 
 -- a test of every number below m
 abbrev below : (ℕ → Bool) → ℕ → Bool
@@ -69,28 +70,27 @@ module _ (s : ℕ) (h : s < 256) (ne : s ≢ 0) where
       go false t = refl
 
   -- a single bit: that check place is mended
-  pub outcome-check : (w : Word) → bitAnd s (s - 1) ≡ 0 → Mended (record { check = w .check ⊕ s; «data» = w .«data» }) 1 ≡ outcomeAt 8 columns w s
-  outcome-check w z =
+  pub outcome-check : (cols : List ℕ) (w : Word) → bitAnd s (s - 1) ≡ 0
+      → Mended (record { check = w .check ⊕ s; «data» = w .«data» }) 1 ≡ outcomeAt 8 cols w s
+  outcome-check cols w z =
       let (b, e) = unit-yes z in
       rw (ne-eqb s 0 ne, b) (ap (λ (x : ℕ). Mended (record { check = w .check ⊕ x; «data» = w .«data» }) 1) (sym e))
 
-  module _ (w : Word) (n : ℕ) (k : bitAnd s (s - 1) ≢ 0) (is : n ≡ cond (ltb (columnPlace columns s) 64) (suc (columnPlace columns s)) 0) where
-    pub outcome-far : n ≡ 0 → Far ≡ outcomeAt 8 columns w s
-    unfolding columns
-    outcome-far z = rw (ne-eqb s 0 ne, unit-no k, columns-length) (go (ltb (columnPlace columns s) 64) (sym is ∙ z))
+  module _ (cols : List ℕ) (w : Word) (n : ℕ) (k : bitAnd s (s - 1) ≢ 0) (is : n ≡ columnNumber cols s) where
+    pub outcome-far : n ≡ 0 → Far ≡ outcomeAt 8 cols w s
+    outcome-far z = rw (ne-eqb s 0 ne, unit-no k) (go (ltb (columnPlace cols s) (length cols)) (sym is ∙ z))
       where
-        go : (b : Bool) → cond b (suc (columnPlace columns s)) 0 ≡ 0 → Far ≡ cond b (Mended (withData w (columnPlace columns s)) 1) Far
+        go : (b : Bool) → cond b (suc (columnPlace cols s)) 0 ≡ 0 → Far ≡ cond b (Mended (withData w (columnPlace cols s)) 1) Far
         go true e = absurd (omega (arith, e))
         go false e = refl
 
     -- a column: that data place is mended
-    pub outcome-data : n ≢ 0 → (n - 1 < 64) × (Mended (withData w (n - 1)) 1 ≡ outcomeAt 8 columns w s)
-    unfolding columns
-    outcome-data z = go (ltb (columnPlace columns s) 64) refl (is)
+    pub outcome-data : n ≢ 0 → (n - 1 < length cols) × (Mended (withData w (n - 1)) 1 ≡ outcomeAt 8 cols w s)
+    outcome-data z = go (ltb (columnPlace cols s) (length cols)) refl is
       where
-        go : (b : Bool) → ltb (columnPlace columns s) 64 ≡ b → n ≡ cond b (suc (columnPlace columns s)) 0
-            → (n - 1 < 64) × (Mended (withData w (n - 1)) 1 ≡ outcomeAt 8 columns w s)
+        go : (b : Bool) → ltb (columnPlace cols s) (length cols) ≡ b → n ≡ cond b (suc (columnPlace cols s)) 0
+            → (n - 1 < length cols) × (Mended (withData w (n - 1)) 1 ≡ outcomeAt 8 cols w s)
         go false e f = absurd (z f)
         go true e f =
-            let q : n - 1 ≡ columnPlace columns s = omega (arith, f) in
-            (omega (arith, ltb-true (columnPlace columns s) 64 e), rw (q, ne-eqb s 0 ne, unit-no k, columns-length, e))
+            let q : n - 1 ≡ columnPlace cols s = omega (arith, f) in
+            (omega (arith, ltb-true (columnPlace cols s) (length cols) e), rw (q, ne-eqb s 0 ne, unit-no k, e))

@@ -1,18 +1,24 @@
--- 01, Message of the (72,64) code: the message of a codeword is its data bits.
+-- 01, Message of the (72,64) code, and 02, No. 3: the message of a codeword is its data bits.
 use mathlib.Core.Path.{_≡_}
 use mathlib.Core.Logic.{_↔_}
+use mathlib.Core.List.{List}
+use Prim.Native.Nat.{ℕ}
 use lib.Dec.{eqb}
+use Rattle.coding.specs.Columns.{splitSyndrome}
 use Rattle.words.specs.Refusal.{unless, ifDone}
 use Rattle.words.specs.declared.answer.Refusal.the-variants.{NoCodeword}
 use Rattle.words.specs.declared.answer.Answer.{Answer}
 use Rattle.words.specs.declared.answer.Answer.the-variants.{Done}
-use Rattle.hsiao.specs.Table.{syndromeOf, IsCodeword}
+use Rattle.hsiao.specs.Table.{columns, split, IsCodeword}
 use Rattle.hsiao.specs.declared.word.Word.{Word}
 use Rattle.hsiao.specs.declared.read_back.ReadBack.{ReadBack}
 
--- cause 10: a word with a syndrome other than 0
+-- cause 10: a word with a syndrome other than 0, for c check places and these data columns
+abbrev pub messageBy : ℕ → List ℕ → Word → Answer
+messageBy c cols w = unless (eqb (splitSyndrome c cols (split w)) 0) (NoCodeword 0) Done
+
 abbrev pub messageAnswer : Word → Answer
-messageAnswer w = unless (eqb (syndromeOf w) 0) (NoCodeword 0) Done
+messageAnswer w = messageBy 8 columns w
 
 -- a word with a syndrome other than 0, which is no codeword, is refused, with 0 as its data; a codeword is read
 pub record MessageRead (w : Word) (r : ReadBack) : Type 0 where

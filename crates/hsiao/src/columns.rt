@@ -1,13 +1,12 @@
-// The columns of the data places, and the data place of a column.
+// The columns of the data places, and the data place of a column. The table is lent, not made where it is read, so that the compiler
+// writes each function into its callers.
 ghost use mathlib.Core.Path.{_≡_};
-ghost use mathlib.Core.Bool.{cond};
-ghost use Prim.Native.Nat.{suc};
-ghost use lib.Dec.{ltb};
-ghost use Rattle.coding.specs.Columns.{columnPlace};
+ghost use lib.ListN.{take};
 ghost use Rattle.hsiao.specs.Table.{columns};
+ghost use Rattle.hsiao.specs.Inner.Number.{columnNumber};
 
 // The 56 bytes of weight 3 in rising order, then eight of weight 5.
-const COLUMNS: [u8; 64] = [
+pub(crate) const COLUMNS: [u8; 64] = [
     0x07,
     0x0B,
     0x0D,
@@ -76,10 +75,10 @@ const COLUMNS: [u8; 64] = [
 
 // One more than the data place whose column is s, or 0 where no column is s. Each entry adds its number where it is s, so that the
 // compiler compares sixteen at a time.
-pub(crate) fn numbered(s: u8) -> u8
-    ensures { λ r. ⌜ r ≡ cond (ltb (columnPlace columns s) 64) (suc (columnPlace columns s)) 0 ⌝ }
+fn numbered(table: &[u8; 64], s: u8) -> u8
+    requires { ⌜ now table ≡ columns ⌝ }
+    ensures { λ r. ⌜ r ≡ columnNumber columns s ⌝ }
 {
-    let table = COLUMNS;
     let mut n: u8 = 0;
     let mut i: u8 = 0;
     while i < 64 {
@@ -87,6 +86,21 @@ pub(crate) fn numbered(s: u8) -> u8
             n += i + 1;
         }
         i += 1;
+    }
+    n
+}
+
+// The same among the columns of the first `places` data places.
+pub(crate) fn numbered_within(table: &[u8; 64], places: u8, s: u8) -> u8
+    requires { ⌜ now table ≡ columns ⌝ }
+    ensures { λ r. ⌜ r ≡ columnNumber (take places columns) s ⌝ }
+{
+    let n = numbered(table, s);
+    if 64 <= places {
+        return n;
+    }
+    if places < n {
+        return 0;
     }
     n
 }

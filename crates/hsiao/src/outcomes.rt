@@ -1,11 +1,13 @@
 // Part 5: how one word ends.
-use crate::columns::numbered;
+use crate::columns::COLUMNS;
+use crate::columns::numbered_within;
 use crate::syndromes::syndrome;
 use crate::word::Word;
 ghost use mathlib.Core.Path.{_≡_};
+ghost use lib.ListN.{take};
 ghost use Rattle.coding.specs.Columns.{SplitPlaces};
 ghost use Rattle.hsiao.specs.Table.{columns, split};
-ghost use Rattle.hsiao.specs.Outcome.{outcomeOf, wordIn, countIn};
+ghost use Rattle.hsiao.specs.Outcome.{outcomeAt, outcomeOf, wordIn, countIn};
 
 // Clean: no error; mended: corrected in so many places; far: a decoding failure, two errors being detected.
 pub enum Outcome {
@@ -14,11 +16,12 @@ pub enum Outcome {
     Far,
 }
 
-// Syndrome 0 is clean, a syndrome equal to a column mends that place, any other is far.
-pub fn outcome_of(w: Word) -> Outcome
-    ensures { λ o. ⌜ (o ≡ outcomeOf w) × SplitPlaces 8 columns (split w) ⌝ }
+// The outcome by the syndrome s and the columns of the first `places` data places: 0 is clean, a column mends its place, any other is
+// far.
+pub(crate) fn outcome_at(table: &[u8; 64], places: u8, w: Word, s: u8) -> Outcome
+    requires { ⌜ now table ≡ columns ⌝ }
+    ensures { λ o. ⌜ o ≡ outcomeAt 8 (take places columns) w s ⌝ }
 {
-    let s = syndrome(w);
     if s == 0 {
         return Outcome::Clean(w);
     }
@@ -28,7 +31,7 @@ pub fn outcome_of(w: Word) -> Outcome
         let mended = Word { check, data };
         return Outcome::Mended(mended, 1);
     }
-    let n = numbered(s);
+    let n = numbered_within(table, places, s);
     if n == 0 {
         return Outcome::Far;
     }
@@ -36,6 +39,15 @@ pub fn outcome_of(w: Word) -> Outcome
     let data = w.data ^ (1u64 << (n - 1));
     let mended = Word { check, data };
     Outcome::Mended(mended, 1)
+}
+
+// The outcome of a word of the (72,64) code, by its syndrome.
+pub fn outcome_of(w: Word) -> Outcome
+    ensures { λ o. ⌜ (o ≡ outcomeOf w) × SplitPlaces 8 columns (split w) ⌝ }
+{
+    let table = COLUMNS;
+    let s = syndrome(w);
+    outcome_at(&table, 64, w, s)
 }
 
 // The word of an outcome; a far word is answered unchanged.

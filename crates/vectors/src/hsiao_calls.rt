@@ -9,8 +9,13 @@ use hsiao::encode;
 use hsiao::message;
 use hsiao::syndrome;
 
-fn joined(high: u32, low: u32) -> u64 {
+pub(crate) fn joined(high: u32, low: u32) -> u64 {
     high as u64 * 4294967296 + low as u64
+}
+
+pub(crate) fn word(w: Word) {
+    item(w.check as u32);
+    long(w.data);
 }
 
 // The syndrome, the answer with its count, and the data read back from the word as received.
@@ -20,8 +25,7 @@ fn decoded(w: Word) {
     let r = message(w);
     let a = r.answer;
     item(syndrome(w) as u32);
-    item(c.check as u32);
-    long(c.data);
+    word(c);
     item(d.count as u32);
     answer(a);
     long(r.data);
@@ -35,6 +39,6 @@ pub(crate) fn call(operation: u8, high: u32, low: u32, x: u32) {
             let check = (x % 256) as u8;
             decoded(Word { check, data });
         }
-        _ => hsiao_changes::call(operation, data, x),
+        _ => hsiao_changes::call(operation == 43, 0, data, x),
     }
 }

@@ -5,11 +5,12 @@ mod batch_calls; // operations on a matrix and a batch of words
 mod golay_calls; // operations of the extended Golay code
 mod golay_patterns; // every message and every error pattern of it
 mod hsiao_calls; // operations of the (72,64) code
-mod hsiao_changes; // its words changed in up to three places
+mod hsiao_changes; // words changed in up to three places, of this code and of those of 16, 32 and 64 data bits
 mod matrix_calls; // operations on a matrix
 mod number_calls; // operations on two words or numbers
 mod print; // what a line is made of
 mod records; // what a record is made of
+mod width_calls; // operations of the codes of 16, 32 and 64 data bits
 
 // More records than the input has.
 const MAX_RECORDS: usize = 100000;

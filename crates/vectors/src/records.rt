@@ -6,6 +6,7 @@ use crate::hsiao_calls;
 use crate::matrix_calls;
 use crate::number_calls;
 use crate::print;
+use crate::width_calls;
 use libc::STDIN_FILENO;
 ghost use Prim.Native.Nat.{_<_};
 ghost use Rattle.io.specs.Counts.{Counts};
@@ -74,7 +75,8 @@ fn dispatch(operation: u8, n: u32, k: u32, x: u32, rows: &[u32]) {
         1 => matrix_calls::call(operation, n, k, x, rows),
         2 => batch_calls::call(operation, n, k, x, rows),
         3 => golay_calls::call(operation, n, k),
-        _ => hsiao_calls::call(operation, n, k, x),
+        4 => hsiao_calls::call(operation, n, k, x),
+        _ => width_calls::call(operation, n, k, x, rows),
     }
 }
 

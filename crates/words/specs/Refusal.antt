@@ -1,4 +1,4 @@
--- 01, "Causes and numbers": the number of each cause, the value beside it, and what a refusal leaves in a lent list.
+-- 01, "Causes and numbers", and 02, No. 3: the number of each cause, the value beside it, and what a refusal leaves in a lent list.
 use mathlib.Core.List.{List, _++_}
 use mathlib.Core.Bool.{Bool, true, false}
 use Prim.Native.Nat.{ℕ}
@@ -6,11 +6,11 @@ use lib.Dec.{eqb}
 use lib.ListN.{length, drop}
 use Rattle.coding.specs.Lists.{first}
 use Rattle.words.specs.declared.answer.Refusal.{Refusal}
-use Rattle.words.specs.declared.answer.Refusal.the-variants.{OutOfRange, RowCount, RowOutside, Dependent, RadiusTooLarge, TooManyWords, WordOutside, ShortOutput, ShortWork, NoCodeword}
+use Rattle.words.specs.declared.answer.Refusal.the-variants.{OutOfRange, RowCount, RowOutside, Dependent, RadiusTooLarge, TooManyWords, WordOutside, ShortOutput, ShortWork, NoCodeword, NoWidth, BeyondWidth}
 use Rattle.words.specs.declared.answer.Answer.{Answer}
 use Rattle.words.specs.declared.answer.Answer.the-variants.{Done, Refused}
 
--- 11 stays unused
+-- 11 stays unused, 12 and 13 are those of a sheet
 abbrev pub numberOf : Refusal → ℕ
 numberOf OutOfRange = 1
 numberOf RowCount = 2
@@ -22,6 +22,8 @@ numberOf (WordOutside i) = 7
 numberOf ShortOutput = 8
 numberOf ShortWork = 9
 numberOf (NoCodeword i) = 10
+numberOf NoWidth = 14
+numberOf BeyondWidth = 15
 
 abbrev pub valueOf : Refusal → ℕ
 valueOf OutOfRange = 0
@@ -34,6 +36,8 @@ valueOf (WordOutside i) = i
 valueOf ShortOutput = 0
 valueOf ShortWork = 0
 valueOf (NoCodeword i) = i
+valueOf NoWidth = 0
+valueOf BeyondWidth = 0
 
 -- the cause refuses where its test fails; otherwise the later causes decide
 abbrev pub unless : Bool → Refusal → Answer → Answer

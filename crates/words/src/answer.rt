@@ -14,6 +14,8 @@ pub enum Refusal {
     ShortOutput,
     ShortWork,
     NoCodeword(usize),
+    NoWidth,
+    BeyondWidth,
 }
 
 pub enum Answer {
@@ -36,6 +38,8 @@ pub fn number(r: Refusal) -> u32
         Refusal::ShortOutput => 8,
         Refusal::ShortWork => 9,
         Refusal::NoCodeword(_) => 10,
+        Refusal::NoWidth => 14,
+        Refusal::BeyondWidth => 15,
     }
 }
 
@@ -54,5 +58,7 @@ pub fn value(r: Refusal) -> usize
         Refusal::ShortOutput => 0,
         Refusal::ShortWork => 0,
         Refusal::NoCodeword(i) => i,
+        Refusal::NoWidth => 0,
+        Refusal::BeyondWidth => 0,
     }
 }
