@@ -16,7 +16,7 @@ static uint64_t next(void)
 
 /* What a case reads, and what each side writes. */
 static struct {
-    uint32_t n, k, rows[RELAY_MAX_ROWS], words[WORDS], fixed[FIXED];
+    uint32_t n, k, rows[RELAY_MAX_ROWS], words[WORDS], fixed[FIXED], width;
     size_t count, prepared;
     uint8_t check[FIXED], sheet[RELAY_MAX_SHEET];
     uint64_t data[FIXED];
@@ -172,30 +172,41 @@ static void golay_decode_table(void) { CORRECT_GOLAY(table_golay_decode, theirs)
 static void golay_message_ours(void) { EACH(relay_golay_message(in.fixed[i], &ours.fixed[i], &ours.value)); }
 static void golay_message_plain(void) { EACH(plain_golay_message(in.fixed[i], &theirs.fixed[i], &theirs.value)); }
 
-/* (72,64) codewords with so many changed data places. */
-static void hsiao(int changed)
+/* Codewords of so many data bits, the width, with so many changed data places. */
+static void split(uint32_t width, int changed)
 {
     prepare_tables();
+    in.width = width;
     for (int i = 0; i < FIXED; i++) {
-        in.data[i] = next();
+        in.data[i] = next() >> (64 - width);
         in.check[i] = plain_hsiao_encode(in.data[i]);
         uint64_t e = 0;
         while (__builtin_popcountll(e) < changed)
-            e |= UINT64_C(1) << (next() >> 33) % 64;
+            e |= UINT64_C(1) << (next() >> 33) % width;
         in.data[i] ^= e;
     }
 }
 
-static void hsiao_0(void) { hsiao(0); }
-static void hsiao_1(void) { hsiao(1); }
-static void hsiao_2(void) { hsiao(2); }
-
-static void hsiao_check(void)
+/* The same with a changed check place, of so many. */
+static void split_check(uint32_t width, int checks)
 {
-    hsiao(0);
+    split(width, 0);
     for (int i = 0; i < FIXED; i++)
-        in.check[i] ^= (uint8_t)(1u << i % 8);
+        in.check[i] ^= (uint8_t)(1u << i % checks);
 }
+
+static void hsiao_0(void) { split(64, 0); }
+static void hsiao_1(void) { split(64, 1); }
+static void hsiao_2(void) { split(64, 2); }
+static void hsiao_check(void) { split_check(64, 8); }
+static void narrow_0(void) { split(16, 0); }
+static void narrow_1(void) { split(16, 1); }
+static void narrow_2(void) { split(16, 2); }
+static void narrow_check(void) { split_check(16, 6); }
+static void middle_0(void) { split(32, 0); }
+static void middle_1(void) { split(32, 1); }
+static void middle_2(void) { split(32, 2); }
+static void middle_check(void) { split_check(32, 7); }
 
 #define CORRECT(f, w) EACH((w.check[i] = in.check[i], w.data[i] = in.data[i], w.counts[i] = f(&w.check[i], &w.data[i])))
 static void hsiao_encode_ours(void) { EACH(ours.check[i] = relay_hsiao_encode(in.data[i])); }
@@ -206,6 +217,19 @@ static void hsiao_decode_diagonals(void) { CORRECT(diagonal_hsiao_decode, theirs
 static void hsiao_decode_tables(void) { CORRECT(table_hsiao_decode, theirs); }
 static void hsiao_message_ours(void) { EACH(relay_hsiao_message(in.check[i], in.data[i], &ours.data[i], &ours.value)); }
 static void hsiao_message_plain(void) { EACH(plain_hsiao_message(in.check[i], in.data[i], &theirs.data[i], &theirs.value)); }
+
+#define WIDTH_ENCODE(f, w) EACH(f(in.width, in.data[i], &w.check[i], &w.value))
+#define WIDTH_DECODE(f, w) EACH(f(in.width, in.check[i], in.data[i], &w.check[i], &w.data[i], &w.counts[i], &w.value))
+#define WIDTH_MESSAGE(f, w) EACH(f(in.width, in.check[i], in.data[i], &w.data[i], &w.value))
+static void width_encode_ours(void) { WIDTH_ENCODE(relay_hsiao_width_encode, ours); }
+static void width_encode_plain(void) { WIDTH_ENCODE(plain_width_encode, theirs); }
+static void width_encode_64(void) { EACH(theirs.check[i] = relay_hsiao_encode(in.data[i])); }
+static void width_decode_ours(void) { WIDTH_DECODE(relay_hsiao_width_decode, ours); }
+static void width_decode_plain(void) { WIDTH_DECODE(plain_width_decode, theirs); }
+static void width_decode_64(void) { CORRECT(relay_hsiao_decode, theirs); }
+static void width_message_ours(void) { WIDTH_MESSAGE(relay_hsiao_width_message, ours); }
+static void width_message_plain(void) { WIDTH_MESSAGE(plain_width_message, theirs); }
+static void width_message_64(void) { EACH(relay_hsiao_message(in.check[i], in.data[i], &theirs.data[i], &theirs.value)); }
 
 static void put(uint32_t x)
 {
@@ -275,6 +299,10 @@ static void run_plain(void) { theirs.length = plain_run(in.sheet, in.sheet_len, 
     {"(72,64)", name, "diagonals and a scan", prepare, hsiao_decode_ours, hsiao_decode_diagonals, {0}, FIXED, false, false},      \
     {"(72,64)", name, "tables of 256", prepare, hsiao_decode_ours, hsiao_decode_tables, {0}, FIXED, false, false}
 
+#define WIDTH_CASE(name, prepare, f)                                                                                              \
+    {"Widths", name, "diagonals and a scan", prepare, f##_ours, f##_plain, {0}, FIXED, false, false},                             \
+    {"Widths", name, "the (72,64) call", prepare, f##_ours, f##_64, {0}, FIXED, false, false}
+
 #define SHEET_CASE(name, prepare)                                                                                                 \
     {"Sheets of 512 words", name, "plain", prepare, run_ours, run_plain, {0}, 1, true, false},                                    \
     {"Sheets of 512 words", name, "quick", prepare, run_ours, run_plain, {.blocks = true, .loops = true}, 1, true, false},        \
@@ -306,6 +334,18 @@ const Case cases[] = {
     HSIAO_CASE("decode, 1 changed check place", hsiao_check),
     HSIAO_CASE("decode, 2 changed places (far)", hsiao_2),
     {"(72,64)", "read back", "folds", hsiao_0, hsiao_message_ours, hsiao_message_plain, {0}, FIXED, false, false},
+    WIDTH_CASE("16, encode", narrow_0, width_encode),
+    WIDTH_CASE("16, decode, 0 changed places", narrow_0, width_decode),
+    WIDTH_CASE("16, decode, 1 changed data place", narrow_1, width_decode),
+    WIDTH_CASE("16, decode, 1 changed check place", narrow_check, width_decode),
+    WIDTH_CASE("16, decode, 2 changed places (far)", narrow_2, width_decode),
+    WIDTH_CASE("16, read back", narrow_0, width_message),
+    WIDTH_CASE("32, encode", middle_0, width_encode),
+    WIDTH_CASE("32, decode, 0 changed places", middle_0, width_decode),
+    WIDTH_CASE("32, decode, 1 changed data place", middle_1, width_decode),
+    WIDTH_CASE("32, decode, 1 changed check place", middle_check, width_decode),
+    WIDTH_CASE("32, decode, 2 changed places (far)", middle_2, width_decode),
+    WIDTH_CASE("32, read back", middle_0, width_message),
     SHEET_CASE("random (7,4)", sheet_small),
     SHEET_CASE("random (23,12)", sheet_middle),
     SHEET_CASE("random (23,11)", sheet_other),

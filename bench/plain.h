@@ -58,6 +58,10 @@ uint8_t plain_hsiao_decode(uint8_t *check, uint64_t *data);
 uint8_t diagonal_hsiao_decode(uint8_t *check, uint64_t *data);
 uint8_t table_hsiao_decode(uint8_t *check, uint64_t *data);
 uint32_t plain_hsiao_message(uint8_t check, uint64_t data, uint64_t *message, size_t *value);
+uint32_t plain_width_encode(uint32_t width, uint64_t data, uint8_t *check, size_t *value);
+uint32_t plain_width_decode(uint32_t width, uint8_t check, uint64_t data, uint8_t *word_check, uint64_t *word_data, uint8_t *count,
+                            size_t *value);
+uint32_t plain_width_message(uint32_t width, uint8_t check, uint64_t data, uint64_t *message, size_t *value);
 
 size_t plain_run(const uint8_t *sheet, size_t sheet_len, uint8_t *out, size_t out_len);
 

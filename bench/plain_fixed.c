@@ -179,7 +179,8 @@ static inline uint8_t diagonal_sum(uint64_t d)
     return folded(s);
 }
 
-static inline uint8_t corrected(uint8_t s, uint8_t *check, uint64_t *data)
+/* By the columns of the first `width` data places. */
+static inline uint8_t corrected(uint32_t width, uint8_t s, uint8_t *check, uint64_t *data)
 {
     if (s == 0)
         return 0;
@@ -190,7 +191,7 @@ static inline uint8_t corrected(uint8_t s, uint8_t *check, uint64_t *data)
     uint8_t r = 0;
     for (uint8_t i = 0; i < 64; i++)
         r += COLUMNS[i] == s ? (uint8_t)(i + 1) : (uint8_t)0;
-    if (r == 0)
+    if (r == 0 || (width < 64 && r > width))
         return 255;
     *data ^= UINT64_C(1) << (r - 1);
     return 1;
@@ -203,12 +204,12 @@ uint8_t plain_hsiao_encode(uint64_t data)
 
 uint8_t plain_hsiao_decode(uint8_t *check, uint64_t *data)
 {
-    return corrected(*check ^ spread_sum(*data), check, data);
+    return corrected(64, *check ^ spread_sum(*data), check, data);
 }
 
 uint8_t diagonal_hsiao_decode(uint8_t *check, uint64_t *data)
 {
-    return corrected(*check ^ diagonal_sum(*data), check, data);
+    return corrected(64, *check ^ diagonal_sum(*data), check, data);
 }
 
 /* The column sums of each data byte, and one more than the data place of each column. */
@@ -248,6 +249,54 @@ uint32_t plain_hsiao_message(uint8_t check, uint64_t data, uint64_t *message, si
     *value = 0;
     *message = 0;
     if (check != spread_sum(data))
+        return 10;
+    *message = data;
+    return 0;
+}
+
+/* 14, 15 or 0. */
+static inline uint32_t width_cause(uint32_t width, uint8_t check, uint64_t data)
+{
+    switch (width) {
+    case 16: return check >> 6 || data >> 16 ? 15 : 0;
+    case 32: return check >> 7 || data >> 32 ? 15 : 0;
+    case 64: return 0;
+    default: return 14;
+    }
+}
+
+uint32_t plain_width_encode(uint32_t width, uint64_t data, uint8_t *check, size_t *value)
+{
+    uint32_t cause = width_cause(width, 0, data);
+    *value = 0;
+    *check = cause ? 0 : diagonal_sum(data);
+    return cause;
+}
+
+uint32_t plain_width_decode(uint32_t width, uint8_t check, uint64_t data, uint8_t *word_check, uint64_t *word_data, uint8_t *count,
+                            size_t *value)
+{
+    uint32_t cause = width_cause(width, check, data);
+    *value = 0;
+    *word_check = 0;
+    *word_data = 0;
+    *count = 0;
+    if (cause)
+        return cause;
+    *count = corrected(width, check ^ diagonal_sum(data), &check, &data);
+    *word_check = check;
+    *word_data = data;
+    return 0;
+}
+
+uint32_t plain_width_message(uint32_t width, uint8_t check, uint64_t data, uint64_t *message, size_t *value)
+{
+    uint32_t cause = width_cause(width, check, data);
+    *value = 0;
+    *message = 0;
+    if (cause)
+        return cause;
+    if (check != diagonal_sum(data))
         return 10;
     *message = data;
     return 0;

@@ -79,6 +79,12 @@ static void fixed_codes(void)
     uint64_t received = data ^ (UINT64_C(1) << 40);
     count = relay_hsiao_decode(&check, &received);
     printf("(72,64) %016" PRIX64 " %02X, count %d, %s\n", received, check, count, received == data ? "corrected" : "lost");
+    uint64_t meter = 0xBEEF, mended;
+    if (relay_hsiao_width_encode(16, meter, &check, &value) == RELAY_DONE
+        && relay_hsiao_width_decode(16, check, meter ^ 0x8000, &check, &mended, &count, &value) == RELAY_DONE)
+        printf("(22,16) %04" PRIX64 " %02X, count %d, %s\n", mended, check, count, mended == meter ? "corrected" : "lost");
+    uint32_t number = relay_hsiao_width_encode(16, 0x10000, &check, &value);
+    printf("10000 as 16 bits: number %" PRIu32 ", value %zu: %s\n", number, value, relay_text(number));
 }
 
 static void sheet(void)

@@ -31,7 +31,7 @@ extern "C" {
 
 /* The version of this header. */
 #define RELAY_VERSION_MAJOR 0
-#define RELAY_VERSION_MINOR 5
+#define RELAY_VERSION_MINOR 6
 #define RELAY_VERSION_PATCH 0
 #define RELAY_VERSION (10000 * RELAY_VERSION_MAJOR + 100 * RELAY_VERSION_MINOR + RELAY_VERSION_PATCH)
 
@@ -53,7 +53,7 @@ enum {
 
 /* Numbers. A call that may refuse returns 0, or the number of the first cause that refuses it, and writes at *value the value
  * beside it: the first such row or word, from 0, where the cause is about one, else 0. A call states its causes; they are tested
- * in rising order. A refused call on lists leaves every list as it was. Later versions may have more numbers; 11 stays unused.
+ * in rising order, 14 and 15 before all others. A refused call on lists leaves every list as it was. Later versions may have more numbers; 11 stays unused.
  * docs/REFUSALS.md says of each what to do. */
 enum {
     RELAY_DONE = 0,
@@ -68,7 +68,9 @@ enum {
     RELAY_SHORT_WORK = 9,       /* the working list is shorter than 2^(n - k) */
     RELAY_NO_CODEWORD = 10,     /* a word that is to be read back is no codeword; *value: the first such word */
     RELAY_SHEET_LAYOUT = 12,    /* of relay_run alone: the sheet is cut, too long, or a field has a wrong length; value: the byte */
-    RELAY_SHEET_TAG = 13        /* of relay_run alone: a tag is unknown, does not rise or is missing; value: the byte */
+    RELAY_SHEET_TAG = 13,       /* of relay_run alone: a tag is unknown, does not rise or is missing; value: the byte */
+    RELAY_NO_WIDTH = 14,        /* the width is none of 16, 32 and 64 */
+    RELAY_BEYOND_WIDTH = 15     /* the data or the check bits go beyond those of the width */
 };
 
 /* What the code of a matrix is. Causes 1 to 4.
@@ -134,6 +136,19 @@ uint8_t relay_hsiao_decode(uint8_t *check, uint64_t *data);
 /* Message: writes the data of a codeword; cause 10 for any other word, with 0 as its data and *value. Stack: less than 1 kB. */
 uint32_t relay_hsiao_message(uint8_t check, uint64_t data, uint64_t *message, size_t *value);
 
+/* The codes of 16, 32 and 64 data bits, (22,16), (39,32) and (72,64), by this number, the width: a word is 6, 7 or 8 check bits and
+ * the data bits. With width 64 the answers are those of the three calls above. A refusal writes 0 everywhere, *value included.
+ * Encode: causes 14 and 15. Stack: less than 1 kB. */
+uint32_t relay_hsiao_width_encode(uint32_t width, uint64_t data, uint8_t *check, size_t *value);
+
+/* Decode at radius 1: causes 14 and 15. A far word is written unchanged, which is no answer, with RELAY_FAR.
+ * Stack: less than 1 kB. */
+uint32_t relay_hsiao_width_decode(uint32_t width, uint8_t check, uint64_t data,
+                                  uint8_t *word_check, uint64_t *word_data, uint8_t *count, size_t *value);
+
+/* Message: writes the data of a codeword; causes 14, 15, and 10 for a word that is no codeword. Stack: less than 1 kB. */
+uint32_t relay_hsiao_width_message(uint32_t width, uint8_t check, uint64_t data, uint64_t *message, size_t *value);
+
 /* The run over a code sheet (docs/SHEET.md): writes the lines that the program decode_sheet prints, and returns how many bytes they
  * are; the last is "clean C mended M far F places P", how many words ended so and the sum of the counts of the mended ones. A refusal,
  * causes 1 to 7, 12 and 13, is the one line "refused NUMBER VALUE"; 12 and 13 are tested first. `out` has RELAY_MAX_OUTPUT bytes or
@@ -162,6 +177,8 @@ static inline const char *relay_text(uint32_t number)
     case RELAY_NO_CODEWORD: return "a word is to be read back and is no codeword";
     case RELAY_SHEET_LAYOUT: return "the sheet is cut or longer than 4,096 bytes, or a field has a wrong length";
     case RELAY_SHEET_TAG: return "a tag is unknown or does not rise, or one is missing at the end";
+    case RELAY_NO_WIDTH: return "the width is none of 16, 32 and 64";
+    case RELAY_BEYOND_WIDTH: return "the data or check bits go beyond those of the width";
     default: return "a number that this version does not know";
     }
 }

@@ -96,6 +96,20 @@ static void hsiao_message(void)
     number = relay_hsiao_message(7, 1, &data, &value);
 }
 
+static void width_encode(void) { number = relay_hsiao_width_encode(32, 0x12345678, counts, &value); }
+
+static void width_decode(void)
+{
+    static uint64_t data;
+    number = relay_hsiao_width_decode(32, 0x64, 0x12345678, counts, &data, counts + 1, &value);
+}
+
+static void width_message(void)
+{
+    static uint64_t data;
+    number = relay_hsiao_width_message(32, 7, 1, &data, &value);
+}
+
 static void run(void)
 {
     number = relay_run(sheet, sheet_len, printed, sizeof printed) > 0 && memcmp(printed, "refused", 7) != 0 ? 0 : 99;
@@ -117,6 +131,9 @@ static const struct {
     {"relay_hsiao_encode", 1, hsiao_encode},
     {"relay_hsiao_decode", 1, hsiao_decode},
     {"relay_hsiao_message", 1, hsiao_message},
+    {"relay_hsiao_width_encode", 1, width_encode},
+    {"relay_hsiao_width_decode", 1, width_decode},
+    {"relay_hsiao_width_message", 1, width_message},
     {"relay_run", 27, run},
 };
 

@@ -32,13 +32,13 @@ static void version(void)
 static void texts(void)
 {
     const char *unknown = relay_text(99);
-    for (uint32_t i = RELAY_DONE; i <= RELAY_SHEET_TAG; i++) {
+    for (uint32_t i = RELAY_DONE; i <= RELAY_BEYOND_WIDTH; i++) {
         HOLDS(strlen(relay_text(i)) > 0 && (strcmp(relay_text(i), unknown) == 0) == (i == 11));
         for (uint32_t j = 0; j < i; j++)
             HOLDS(strcmp(relay_text(i), relay_text(j)) != 0);
     }
     HOLDS(strlen(unknown) > 0);
-    HOLDS(strcmp(relay_text(RELAY_SHEET_TAG + 1), unknown) == 0);
+    HOLDS(strcmp(relay_text(RELAY_BEYOND_WIDTH + 1), unknown) == 0);
     HOLDS(strcmp(relay_text(UINT32_MAX), unknown) == 0);
 }
 
@@ -126,6 +126,49 @@ static void lightest(void)
     HOLDS(dmin == 3 && weights[3] == 2 && found == 0x0B);
 }
 
+/* The check bits of data by their width, or the cause, with 0 in every other part. */
+static uint32_t width_check(uint32_t width, uint64_t data)
+{
+    uint8_t check = 99;
+    size_t value = 99;
+    uint32_t number = relay_hsiao_width_encode(width, data, &check, &value);
+    HOLDS(value == 0 && (number == RELAY_DONE || check == 0));
+    return number == RELAY_DONE ? check : 1000 + number;
+}
+
+/* The count of a word by its width, or the cause, with 0 in every other part; the data becomes the word's. */
+static uint32_t width_count(uint32_t width, uint8_t check, uint64_t *data)
+{
+    uint8_t word_check = 99, count = 99;
+    uint64_t word_data = 99;
+    size_t value = 99;
+    uint32_t number = relay_hsiao_width_decode(width, check, *data, &word_check, &word_data, &count, &value);
+    HOLDS(value == 0 && (number == RELAY_DONE || (word_check == 0 && word_data == 0 && count == 0)));
+    *data = word_data;
+    return number == RELAY_DONE ? count : 1000 + number;
+}
+
+static void widths(void)
+{
+    uint64_t data = 0, message = 99;
+    size_t value = 99;
+    HOLDS(width_check(16, 0x8000) == 0x2C && width_check(32, 0xDEADBEEF) == 0x05 && width_check(64, 1) == 0x07);
+    HOLDS(width_check(16, 0x10000) == 1000 + RELAY_BEYOND_WIDTH && width_check(32, UINT64_MAX) == 1000 + RELAY_BEYOND_WIDTH);
+    HOLDS(width_check(24, UINT64_MAX) == 1000 + RELAY_NO_WIDTH && width_check(UINT32_MAX, 0) == 1000 + RELAY_NO_WIDTH);
+    HOLDS(width_count(16, 0x2C, &data) == 1 && data == 0x8000);
+    data = 0;
+    HOLDS(width_count(16, 0x31, &data) == RELAY_FAR && data == 0 && width_count(32, 0x64, &data) == RELAY_FAR && data == 0);
+    HOLDS(width_count(64, 0x31, &data) == 1 && data == 0x10000);
+    data = 1;
+    HOLDS(width_count(16, 0x47, &data) == 1000 + RELAY_BEYOND_WIDTH);
+    data = 1;
+    HOLDS(width_count(17, 0x07, &data) == 1000 + RELAY_NO_WIDTH);
+    HOLDS(relay_hsiao_width_message(16, 0x47, 1, &message, &value) == RELAY_BEYOND_WIDTH && message == 0 && value == 0);
+    HOLDS(relay_hsiao_width_message(16, 0x06, 1, &message, &value) == RELAY_NO_CODEWORD && message == 0 && value == 0);
+    HOLDS(relay_hsiao_width_message(33, 0x07, 1, &message, &value) == RELAY_NO_WIDTH && message == 0 && value == 0);
+    HOLDS(relay_hsiao_width_message(16, 0x07, 1, &message, &value) == RELAY_DONE && message == 1 && value == 0);
+}
+
 /* The largest code: lists of the stated sizes are long enough, and written to their end and no further. */
 static void sizes(void)
 {
@@ -156,6 +199,7 @@ int main(void)
     sheets();
     readings();
     lightest();
+    widths();
     sizes();
     return failed;
 }

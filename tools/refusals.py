@@ -36,6 +36,10 @@ CAUSES = {
               'See what tools/show_sheet says of the sheet, and make it again.'),
     13: Cause('the tag at byte {} is unknown or does not rise, or one is missing at the end', BYTE,
               'See what tools/show_sheet says of the sheet, and make it again.'),
+    14: Cause('the width is none of 16, 32 and 64', NOTHING,
+              'Give the number of data bits of the code: 16, 32 or 64.'),
+    15: Cause('the data or check bits go beyond those of the width', NOTHING,
+              'Compare the word with the width: 16 data bits have 6 check bits, 32 have 7, 64 have 8.'),
 }
 
 

@@ -53,7 +53,7 @@ use outcome::front;
 
 /// The version of the library that this crate is written for: 10,000 times the major number, 100 times the minor one, and the
 /// patch.
-pub const VERSION: u32 = 500;
+pub const VERSION: u32 = 600;
 
 /// The most places of a word, n.
 pub const MAX_PLACES: u32 = 28;
@@ -119,12 +119,12 @@ pub struct Lent<'a> {
     pub work: &'a mut [u32],
 }
 
-/// A word of the (72,64) code.
+/// A word of the (72,64) code, or of the codes of 16 and 32 data bits beside it, (22,16) and (39,32).
 #[derive(Clone, Copy, Debug, Default, PartialEq, Eq, Hash)]
 pub struct HsiaoWord {
-    /// The check byte: places 0 to 7.
+    /// The check bits, the first places: 8, or 6 and 7.
     pub check: u8,
-    /// The data: places 8 to 71.
+    /// The data bits, the places after them.
     pub data: u64,
 }
 
@@ -251,6 +251,29 @@ pub fn hsiao_decode(received: HsiaoWord) -> Outcome<HsiaoWord> {
 pub fn hsiao_message(codeword: HsiaoWord) -> Result<u64, Refusal> {
     let mut message = 0;
     told(|value| unsafe { raw::relay_hsiao_message(codeword.check, codeword.data, &mut message, value) })?;
+    Ok(message)
+}
+
+/// The codeword of 16, 32 or 64 data bits, this number being the width. Causes 14 and 15.
+pub fn hsiao_width_encode(width: u32, data: u64) -> Result<HsiaoWord, Refusal> {
+    let mut check = 0;
+    told(|value| unsafe { raw::relay_hsiao_width_encode(width, data, &mut check, value) })?;
+    Ok(HsiaoWord { check, data })
+}
+
+/// The codeword of the width's code within one place of the word, or far. Causes 14 and 15.
+pub fn hsiao_width_decode(width: u32, received: HsiaoWord) -> Result<Outcome<HsiaoWord>, Refusal> {
+    let (mut word, mut count) = (HsiaoWord::default(), 0);
+    told(|value| unsafe {
+        raw::relay_hsiao_width_decode(width, received.check, received.data, &mut word.check, &mut word.data, &mut count, value)
+    })?;
+    Ok(Outcome::told(word, count))
+}
+
+/// The data of a codeword of the width's code. Causes 14, 15 and 10, in this order.
+pub fn hsiao_width_message(width: u32, codeword: HsiaoWord) -> Result<u64, Refusal> {
+    let mut message = 0;
+    told(|value| unsafe { raw::relay_hsiao_width_message(width, codeword.check, codeword.data, &mut message, value) })?;
     Ok(message)
 }
 

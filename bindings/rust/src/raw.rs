@@ -30,5 +30,10 @@ extern "C" {
     pub fn relay_hsiao_encode(data: u64) -> u8;
     pub fn relay_hsiao_decode(check: *mut u8, data: *mut u64) -> u8;
     pub fn relay_hsiao_message(check: u8, data: u64, message: *mut u64, value: *mut usize) -> u32;
+    pub fn relay_hsiao_width_encode(width: u32, data: u64, check: *mut u8, value: *mut usize) -> u32;
+    pub fn relay_hsiao_width_decode(
+        width: u32, check: u8, data: u64, word_check: *mut u8, word_data: *mut u64, count: *mut u8, value: *mut usize,
+    ) -> u32;
+    pub fn relay_hsiao_width_message(width: u32, check: u8, data: u64, message: *mut u64, value: *mut usize) -> u32;
     pub fn relay_run(sheet: *const u8, sheet_len: usize, out: *mut u8, out_len: usize) -> usize;
 }

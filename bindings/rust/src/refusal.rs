@@ -30,6 +30,10 @@ pub enum Refusal {
     SheetLayout(usize),
     /// 13: a tag of a sheet is unknown, does not rise or is missing; the byte.
     SheetTag(usize),
+    /// 14: the width is none of 16, 32 and 64.
+    NoWidth,
+    /// 15: the data or the check bits go beyond those of the width.
+    BeyondWidth,
     /// A number, with the value beside it, that this version does not know. It is proved that none arises.
     Other(u32, usize),
 }
@@ -49,6 +53,8 @@ impl Refusal {
             (10, word) => Refusal::NoCodeword(word),
             (12, byte) => Refusal::SheetLayout(byte),
             (13, byte) => Refusal::SheetTag(byte),
+            (14, 0) => Refusal::NoWidth,
+            (15, 0) => Refusal::BeyondWidth,
             _ => Refusal::Other(number, value),
         }
     }
@@ -68,6 +74,8 @@ impl Refusal {
             Refusal::NoCodeword(_) => 10,
             Refusal::SheetLayout(_) => 12,
             Refusal::SheetTag(_) => 13,
+            Refusal::NoWidth => 14,
+            Refusal::BeyondWidth => 15,
             Refusal::Other(number, _) => number,
         }
     }
@@ -87,7 +95,9 @@ impl Refusal {
             | Refusal::RadiusTooLarge
             | Refusal::TooManyWords
             | Refusal::ShortOutput
-            | Refusal::ShortWork => 0,
+            | Refusal::ShortWork
+            | Refusal::NoWidth
+            | Refusal::BeyondWidth => 0,
         }
     }
 }
@@ -112,6 +122,8 @@ impl fmt::Display for Refusal {
             Refusal::SheetTag(at) => {
                 write!(f, "the tag at byte {at} is unknown or does not rise, or one is missing at the end")
             }
+            Refusal::NoWidth => write!(f, "the width is none of 16, 32 and 64"),
+            Refusal::BeyondWidth => write!(f, "the data or check bits go beyond those of the width"),
             Refusal::Other(number, value) => write!(f, "cause {number} with value {value}"),
         }
     }

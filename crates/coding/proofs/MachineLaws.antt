@@ -1,5 +1,5 @@
 -- Laws of the machine's shifts and masks, as the code writes them on words. Assumes nothing.
-use mathlib.Core.Path.{_≡_, refl, ap, _∙_}
+use mathlib.Core.Path.{_≡_, refl, sym, ap, _∙_}
 use mathlib.Core.Bool.{Bool, true, false}
 use Prim.Native.Nat.{ℕ, zero, suc, _+_, _-_, _*_, _/_, _%_, _^_, _≤_, _<_}
 use native.Mathlib.Nat.{div-eq-of-lt, div-lt-iff-lt-mul, lt-of-lt-of-le, one-mul, mod-eq-of-lt}
@@ -7,7 +7,7 @@ use native.Mathlib.Omega.{arith}
 use lib.Dec.{eqb, ltb, lit<}
 use lib.Pow.{pow-pos, pow-mono, shl-exact}
 use lib.Bits.{bitAnd, bitXor, and-comm, and-mask, and-shifted, xor-shifted}
-use borrow.Author.Tests.{ltb-true, ltb-false, eq-eqb, ne-eqb}
+use borrow.Author.Tests.{lt-ltb, ltb-true, ltb-false, eq-eqb, ne-eqb}
 use Rattle.coding.specs.Word.{bit}
 use Rattle.coding.specs.Matrix.{sel}
 
@@ -28,7 +28,11 @@ fits-shift w n = go (ltb w (2 ^ n)) refl
             let l : w / 2 ^ n < 1 = omega arith in
             absurd (omega (arith, ltb-false w (2 ^ n) e, rw one-mul at (div-lt-iff-lt-mul (pow-pos n) .0 l)))
 
--- a word of m places has no one at place i, at m or beyond
+-- a word of m places has none at place n, at m or beyond
+pub fits-all : (m w n : ℕ) → w < 2 ^ m → m ≤ n → true ≡ ltb w (2 ^ n)
+fits-all m w n h l = sym (lt-ltb w (2 ^ n) (lt-of-lt-of-le h (pow-mono l)))
+
+-- so its place i, at m or beyond, is 0
 pub bit-beyond : (m w i : ℕ) → w < 2 ^ m → m ≤ i → bit w i ≡ 0
 bit-beyond m w i h l = ap (λ (x : ℕ). x % 2) (div-eq-of-lt (lt-of-lt-of-le h (pow-mono l)))
 

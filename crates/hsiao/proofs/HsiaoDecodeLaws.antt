@@ -8,7 +8,7 @@ use Prim.Native.Nat.{ℕ, _^_, _≤_, _<_}
 use native.Mathlib.Decide.{decLe}
 use native.Mathlib.Omega.{arith}
 use lib.Dec.{eqb, ltb, lit≤}
-use lib.ListN.{length, getD}
+use lib.ListN.{length}
 use lib.Pow.{pow-mono}
 use borrow.Author.Tests.{eqb-true, eqb-false, ltb-true, ltb-false, lt-ltb, le-ltb}
 use Rattle.coding.specs.Matrix.{encode, Inside}
@@ -16,7 +16,8 @@ use Rattle.coding.specs.Radius.{RadiusRules}
 use Rattle.coding.specs.Columns.{SplitWord, splitDistance, units, splitSyndrome, columnPlace, SplitPlaces, SplitCodeword, OddColumns, SplitMinimumDistance}
 use Rattle.coding.proofs.ListLaws.{length-tabulate, getD-tabulate}
 use Rattle.coding.proofs.RadiusLaws.{radius-found}
-use Rattle.coding.proofs.ColumnLaws.{check-is, encoded-codeword, split-discrete, split-distance-sym, split-distance-tri, split-distance-self, four-apart, IsColumn, check-changed-distance, info-changed-distance, mend-check, mend-info, near-syndrome}
+use Rattle.coding.proofs.ColumnLaws.{split-discrete, split-distance-sym, split-distance-tri, split-distance-self, check-is, encoded-codeword}
+use Rattle.coding.proofs.ColumnLaws.{four-apart, IsColumn, check-changed-distance, info-changed-distance, mend-check, mend-info, near-syndrome}
 use Rattle.hsiao.specs.Table.{split}
 use Rattle.hsiao.specs.Outcome.{withCheck, withData, outcomeAt, outcomeBy, wordIn, countIn}
 use Rattle.hsiao.specs.Encoded.{EncodedBy}

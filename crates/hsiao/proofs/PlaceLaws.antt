@@ -10,7 +10,7 @@ use native.Mathlib.Omega.{arith}
 use lib.Dec.{eqb, ltb}
 use lib.ListN.{length, getD, take}
 use lib.Seq.{length-take-le, getD-take}
-use borrow.Author.Tests.{eqb-true, eq-eqb, lt-ltb, le-ltb, ltb-true, ltb-false}
+use borrow.Author.Tests.{eqb-true, eq-eqb, lt-ltb, le-ltb, ltb-false}
 use Rattle.coding.specs.Lists.{first}
 use Rattle.coding.specs.Columns.{columnPlace}
 use Rattle.coding.proofs.SearchLaws.{first-le, first-hit, first-before, first-is, first-upto}

@@ -1,10 +1,9 @@
 -- What the calls with a width answer: on a refusal, and for data and words of a width. Assumes nothing.
 use mathlib.Core.Path.{_≡_, refl, sym, ap, _∙_}
 use mathlib.Core.Logic.{_↔_}
-use mathlib.Core.Bool.{true, false}
+use mathlib.Core.Bool.{true}
 use Prim.Native.Nat.{ℕ, _^_}
 use lib.Dec.{eqb, ltb}
-use lib.ListN.{length}
 use borrow.Author.Tests.{eqb-true, eq-eqb, ltb-true}
 use Rattle.coding.specs.Matrix.{encode}
 use Rattle.coding.specs.Columns.{splitSyndrome, SplitCodeword}
@@ -12,7 +11,6 @@ use Rattle.coding.proofs.MatrixLaws.{encode-take}
 use Rattle.words.specs.Refusal.{unless}
 use Rattle.words.specs.declared.answer.Refusal.{Refusal}
 use Rattle.words.specs.declared.answer.Refusal.the-variants.{NoWidth, BeyondWidth, NoCodeword}
-use Rattle.words.specs.declared.answer.Answer.{Answer}
 use Rattle.words.specs.declared.answer.Answer.the-variants.{Done, Refused}
 use Rattle.words.proofs.AnswerLaws.{refused-done, unless-done}
 use Rattle.hsiao.specs.Table.{columns, split, syndromeOf}
@@ -50,11 +48,12 @@ module _ (m : ℕ) (t : isWidth m ≡ true) where
   pub encode-done : (bits : ℕ) (r : Encoding) → ltb bits (2 ^ m) ≡ true → r .answer ≡ Done → r .check ≡ encode columns bits → Encoded m bits r
   encode-done bits r u a e =
       let C : WidthCode m = width-code m t in
-      let f : r .check ≡ encode (columnsOf m) bits = e ∙ sym (encode-take columns m bits (ltb-true bits (2 ^ m) u)) ∙ ap (λ l. encode l bits) (sym (C .front)) in
+      let l = ltb-true bits (2 ^ m) u in
+      let f : r .check ≡ encode (columnsOf m) bits = e ∙ sym (encode-take columns m bits l) ∙ ap (λ cols. encode cols bits) (sym (C .front)) in
       record {
         answer = rw (a, t, u) refl;
         check = rw a f;
-        encoded = λ _. encoded-by (checksOf m) (columnsOf m) (C .table .odd .inside) (rw (C .table .size) (ltb-true bits (2 ^ m) u)) f;
+        encoded = λ _. encoded-by (checksOf m) (columnsOf m) (C .table .odd .inside) (rw (C .table .size) l) f;
         table = λ _. C .table;
       }
 

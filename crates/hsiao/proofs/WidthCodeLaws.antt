@@ -3,16 +3,17 @@
 use mathlib.Core.Path.{_≡_, refl, sym, ap, ap₂, _∙_}
 use mathlib.Core.Logic.{_≢_}
 use mathlib.Core.Bool.{Bool, true, false, _&&_, _||_}
-use mathlib.Core.List.{List}
+use mathlib.Core.List.{List, _++_, map}
 use Prim.Native.Nat.{ℕ, _^_, _≤_, _<_}
 use native.Mathlib.Nat.{lt-of-lt-of-le}
-use lib.Dec.{eqb, ltb, lit≤, lit<}
+use lib.Dec.{T, eqb, lit≤, lit<}
 use lib.Count.{ones, onesIn}
-use lib.ListN.{length, take}
+use lib.ListN.{length, getD, take}
 use lib.Pow.{pow-mono}
 use lib.Bits.{xor-lt}
 use borrow.Author.Tests.{eqb-true, ne-eqb, lt-ltb, ltb-true}
-use Rattle.coding.specs.Word.{_⊕_}
+use Rattle.coding.specs.Lists.{total}
+use Rattle.coding.specs.Word.{_⊕_, weight}
 use Rattle.coding.specs.Matrix.{encode}
 use Rattle.coding.specs.Columns.{units, splitSyndrome, SplitPlaces, OddColumns, SplitMinimumDistance}
 use Rattle.coding.proofs.SearchLaws.{true-false}
@@ -22,7 +23,7 @@ use Rattle.coding.proofs.ColumnLaws.{four-exactly}
 use Rattle.coding.proofs.ColumnTestLaws.{oddColumns, odd-columns}
 use Rattle.hsiao.specs.Table.{columns, split, syndromeOf}
 use Rattle.hsiao.specs.Outcome.{outcomeAt, outcomeBy}
-use Rattle.hsiao.specs.Widths.Code.{isWidth, checksOf, columnsOf, WidthTable}
+use Rattle.hsiao.specs.Widths.Code.{isWidth, checksOf, columnsOf, onesOf, WidthTable}
 use Rattle.hsiao.specs.Widths.Causes.{hasPlaces}
 use Rattle.hsiao.specs.declared.word.Word.{Word}
 use Rattle.hsiao.proofs.HsiaoTableLaws.{columns-odd, columns-length, distance-four, table-is}
@@ -34,32 +35,26 @@ pub record WidthCode (m : ℕ) : Type 0 where
   pub table : WidthTable m
   pub minimum : SplitMinimumDistance (checksOf m) (columnsOf m) 4
 
--- computed, for the shorter widths
-odd-16 : OddColumns 6 (columnsOf 16)
-unfolding columnsOf oddColumns onesIn
-odd-16 = odd-columns 6 (columnsOf 16) tt
+-- what a width's columns have to pass; the first has weight 3
+coded : (m : ℕ) → checksOf m ≤ 8 → columnsOf m ≡ take m columns → length (columnsOf m) ≡ m → T (oddColumns (checksOf m) (columnsOf m))
+    → total (map weight (units (checksOf m) ++ columnsOf m)) ≡ onesOf m → 0 < length (columnsOf m) → weight (getD (columnsOf m) 0 0) ≡ 3 → WidthCode m
+coded m c f l t o s e =
+    let K : OddColumns (checksOf m) (columnsOf m) = odd-columns (checksOf m) (columnsOf m) t in
+    record {
+      checks = c;
+      front = f;
+      table = record { size = l; odd = K; ones = o };
+      minimum = four-exactly (checksOf m) (columnsOf m) K 0 s e;
+    }
 
+-- computed
 at-16 : WidthCode 16
-unfolding columns columnsOf ones
-at-16 = record {
-  checks = lit≤ tt;
-  front = refl;
-  table = record { size = refl; odd = odd-16; ones = refl };
-  minimum = four-exactly 6 (columnsOf 16) odd-16 0 (lit< tt) refl;
-}
-
-odd-32 : OddColumns 7 (columnsOf 32)
-unfolding columnsOf oddColumns onesIn
-odd-32 = odd-columns 7 (columnsOf 32) tt
+unfolding columns columnsOf oddColumns onesIn ones
+at-16 = coded 16 (lit≤ tt) refl refl tt refl (lit< tt) refl
 
 at-32 : WidthCode 32
-unfolding columns columnsOf ones
-at-32 = record {
-  checks = lit≤ tt;
-  front = refl;
-  table = record { size = refl; odd = odd-32; ones = refl };
-  minimum = four-exactly 7 (columnsOf 32) odd-32 0 (lit< tt) refl;
-}
+unfolding columns columnsOf oddColumns onesIn ones
+at-32 = coded 32 (lit≤ tt) refl refl tt refl (lit< tt) refl
 
 at-64 : WidthCode 64
 unfolding columns columnsOf

@@ -1,6 +1,7 @@
 //! The (72,64) code.
+use crate::plain::{width_code, SplitCode};
 use crate::random::Random;
-use crate::{outcome, plain, told};
+use crate::{outcome, told};
 use relaymarten::{hsiao_decode, hsiao_encode, hsiao_message, raw, HsiaoWord};
 use std::collections::BTreeSet;
 
@@ -11,12 +12,12 @@ fn decode_raw(mut check: u8, mut data: u64) -> (u8, u64, u8) {
 }
 
 /// One word: its decoding and its message.
-fn compare(columns: &[u8], check: u8, data: u64) -> u8 {
-    let theirs = plain::hsiao_decoded(columns, check, data);
+fn compare(code: &SplitCode, check: u8, data: u64) -> u8 {
+    let theirs = code.decoded(check, data);
     assert_eq!(decode_raw(check, data), theirs, "{check:02X} {data:016X}");
     let wanted = outcome(HsiaoWord { check: theirs.0, data: theirs.1 }, theirs.2);
     assert_eq!(hsiao_decode(HsiaoWord { check, data }), wanted, "{check:02X} {data:016X}");
-    let codeword = plain::hsiao_syndrome(columns, check, data) == 0;
+    let codeword = code.syndrome(check, data) == 0;
     let message = if codeword { Ok(data) } else { Err((10, 0)) };
     assert_eq!(told(hsiao_message(HsiaoWord { check, data })), message, "{check:02X} {data:016X}");
     theirs.2
@@ -26,11 +27,11 @@ fn compare(columns: &[u8], check: u8, data: u64) -> u8 {
 #[test]
 fn words() {
     let mut r = Random::of("hsiao words");
-    let columns = plain::hsiao_columns();
+    let code = width_code(64).unwrap();
     let mut seen = BTreeSet::new();
     for i in 0..60000 {
         let mut data = r.next();
-        let mut check = plain::hsiao_syndrome(&columns, 0, data);
+        let mut check = code.syndrome(0, data);
         assert_eq!(hsiao_encode(data), HsiaoWord { check, data }, "{data:016X}");
         for _ in 0..i % 5 {
             match r.below(72) {
@@ -41,7 +42,7 @@ fn words() {
         if i % 5 == 4 {
             check = r.next() as u8;
         }
-        seen.insert(compare(&columns, check, data));
+        seen.insert(compare(&code, check, data));
     }
     assert_eq!(seen, BTreeSet::from([0, 1, 255]));
 }
@@ -49,11 +50,11 @@ fn words() {
 /// Every check byte with each single data bit, and with none: all 256 syndromes.
 #[test]
 fn every_syndrome() {
-    let columns = plain::hsiao_columns();
+    let code = width_code(64).unwrap();
     for check in 0..=255 {
-        compare(&columns, check, 0);
+        compare(&code, check, 0);
         for i in 0..64 {
-            compare(&columns, check, 1 << i);
+            compare(&code, check, 1 << i);
         }
     }
 }

@@ -11,6 +11,7 @@ mod inputs;
 mod plain;
 mod random;
 mod sheets;
+mod widths;
 
 use relaymarten::{Outcome, Refusal};
 use std::collections::BTreeSet;

@@ -203,33 +203,52 @@ pub fn golay_decoded(codewords: &[u32], w: u32) -> (u32, u8) {
     }
 }
 
-pub fn hsiao_columns() -> Vec<u8> {
-    let mut columns: Vec<u8> = (0..=255u8).filter(|b| b.count_ones() == 3).collect();
-    columns.extend([0x1F, 0x3E, 0x7C, 0xF8, 0xF1, 0xE3, 0xC7, 0x8F]);
-    columns
+/// A code given by its columns: the number of check places, and the columns of the data places.
+pub struct SplitCode {
+    pub checks: u32,
+    pub columns: Vec<u8>,
 }
 
-pub fn hsiao_syndrome(columns: &[u8], check: u8, data: u64) -> u8 {
-    (0..64).filter(|i| data >> i & 1 == 1).fold(check, |s, i| s ^ columns[i])
+/// The code of so many data bits; none where there is no such width.
+pub fn width_code(width: u32) -> Option<SplitCode> {
+    let (checks, more): (u32, &[u8]) = match width {
+        16 => (6, &[]),
+        32 => (7, &[]),
+        64 => (8, &[0x1F, 0x3E, 0x7C, 0xF8, 0xF1, 0xE3, 0xC7, 0x8F]),
+        _ => return None,
+    };
+    let threes = (0..1u32 << checks).map(|c| c as u8).filter(|c| c.count_ones() == 3);
+    Some(SplitCode { checks, columns: threes.chain(more.iter().copied()).take(width as usize).collect() })
 }
 
-/// Word and count: the word, else the 72 words with one place changed, are tried for a codeword.
-pub fn hsiao_decoded(columns: &[u8], check: u8, data: u64) -> (u8, u64, u8) {
-    let codeword = |c: u8, d: u64| hsiao_syndrome(columns, c, d) == 0;
-    if codeword(check, data) {
-        return (check, data, 0);
+impl SplitCode {
+    pub fn syndrome(&self, check: u8, data: u64) -> u8 {
+        (0..self.columns.len()).filter(|i| data >> i & 1 == 1).fold(check, |s, i| s ^ self.columns[i])
     }
-    for i in 0..8 {
-        if codeword(check ^ 1 << i, data) {
-            return (check ^ 1 << i, data, 1);
+
+    /// Whether the parts have no one beyond their places.
+    pub fn holds(&self, check: u8, data: u64) -> bool {
+        u32::from(check) >> self.checks == 0 && u128::from(data) >> self.columns.len() == 0
+    }
+
+    /// Word and count: the word, else the words with one place changed, are tried for a codeword.
+    pub fn decoded(&self, check: u8, data: u64) -> (u8, u64, u8) {
+        let codeword = |c: u8, d: u64| self.syndrome(c, d) == 0;
+        if codeword(check, data) {
+            return (check, data, 0);
         }
-    }
-    for i in 0..64 {
-        if codeword(check, data ^ 1 << i) {
-            return (check, data ^ 1 << i, 1);
+        for i in 0..self.checks {
+            if codeword(check ^ 1 << i, data) {
+                return (check ^ 1 << i, data, 1);
+            }
         }
+        for i in 0..self.columns.len() {
+            if codeword(check, data ^ 1 << i) {
+                return (check, data ^ 1 << i, 1);
+            }
+        }
+        (check, data, FAR)
     }
-    (check, data, FAR)
 }
 
 /// A sheet that was read.

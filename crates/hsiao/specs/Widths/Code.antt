@@ -27,9 +27,13 @@ checksOf width = byWidth width 6 7 8
 unfoldable pub columnsOf : ℕ → List ℕ
 columnsOf width = byWidth width (take 16 (words 6 3)) (take 32 (words 7 3)) columns
 
--- what is promised of a width's columns: there are so many; they are different, of odd weight and no single bit; and with the columns
--- of the check places they have the total of ones of 000's Table 4.1
+-- the ones of all columns, those of the check places among them: the totals of 000's Table 4.1
+abbrev pub onesOf : ℕ → ℕ
+onesOf width = byWidth width 54 103 216
+
+-- what is promised of a width's columns: there are so many; they are different, of odd weight and no single bit; and they have these
+-- totals
 pub record WidthTable (width : ℕ) : Type 0 where
   pub size : length (columnsOf width) ≡ width
   pub odd : OddColumns (checksOf width) (columnsOf width)
-  pub ones : total (map weight (units (checksOf width) ++ columnsOf width)) ≡ byWidth width 54 103 216
+  pub ones : total (map weight (units (checksOf width) ++ columnsOf width)) ≡ onesOf width

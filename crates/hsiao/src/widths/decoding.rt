@@ -60,9 +60,9 @@ pub fn decode(width: u32, w: Word) -> Decoding
 {
     let table = COLUMNS;
     match width {
-        16 => decoded(&table, 16, 6, w),
-        32 => decoded(&table, 32, 7, w),
         64 => decoded(&table, 64, 8, w),
+        32 => decoded(&table, 32, 7, w),
+        16 => decoded(&table, 16, 6, w),
         _ => refused(Refusal::NoWidth),
     }
 }

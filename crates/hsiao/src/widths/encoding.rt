@@ -43,9 +43,9 @@ pub fn encode(width: u32, bits: u64) -> Encoding
     ensures { λ r. ⌜ Encoded width bits r ⌝ }
 {
     match width {
-        16 => encoded(16, bits),
-        32 => encoded(32, bits),
         64 => encoded(64, bits),
+        32 => encoded(32, bits),
+        16 => encoded(16, bits),
         _ => refused(Refusal::NoWidth),
     }
 }

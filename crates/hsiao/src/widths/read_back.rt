@@ -45,9 +45,9 @@ pub fn message(width: u32, w: Word) -> ReadBack
     ensures { λ r. ⌜ MessageRead width w r ⌝ }
 {
     match width {
-        16 => read(16, 6, w),
-        32 => read(32, 7, w),
         64 => read(64, 8, w),
+        32 => read(32, 7, w),
+        16 => read(16, 6, w),
         _ => refused(Refusal::NoWidth),
     }
 }

@@ -24,7 +24,7 @@ returns-4 : tie.Need-returns-4
 returns-4 c =
     let a = c .before .before .args in
     let r = c .before .match .rest in
-    decode-refused (a .width) NoWidth (a .w) _ (rw (no-width (a .width) (r .0 .0 .1) (r .0 .1) (r .1)) refl) (c .refused .ensures)
+    decode-refused (a .width) NoWidth (a .w) _ (rw (no-width (a .width) (r .1) (r .0 .1) (r .0 .0 .1)) refl) (c .refused .ensures)
 
 pub decode-spec : {M : Type 1} → statement M
 decode-spec =

@@ -1,6 +1,6 @@
 -- `hsiao::widths::encoding::encoded`: the sum of columns is that of the width's columns. Assumes nothing.
 use mathlib.Core.Path.{_≡_, refl, sym, _∙_}
-use mathlib.Core.Bool.{true, false}
+use mathlib.Core.Bool.{false}
 use Prim.Native.Nat.{_^_}
 use lib.Dec.{ltb}
 use borrow.Author.Tests.{not-true, not-false}

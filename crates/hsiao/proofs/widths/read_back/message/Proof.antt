@@ -11,7 +11,7 @@ returns-4 : tie.Need-returns-4
 returns-4 c =
     let a = c .before .before .args in
     let r = c .before .match .rest in
-    message-refused (a .width) (a .w) _ NoWidth (rw (no-width (a .width) (r .0 .0 .1) (r .0 .1) (r .1)) refl) (c .refused .ensures)
+    message-refused (a .width) (a .w) _ NoWidth (rw (no-width (a .width) (r .1) (r .0 .1) (r .0 .0 .1)) refl) (c .refused .ensures)
 
 pub message-spec : {M : Type 1} → statement M
 message-spec =
