@@ -16,7 +16,7 @@ static uint64_t next(void)
 
 /* What a case reads, and what each side writes. */
 static struct {
-    uint32_t n, k, rows[RELAY_MAX_ROWS], words[WORDS], fixed[FIXED], width;
+    uint32_t n, k, rows[RELAY_MAX_ROWS], words[WORDS], fixed[FIXED], width, wide;
     size_t count, prepared;
     uint8_t check[FIXED], sheet[RELAY_MAX_SHEET];
     uint64_t data[FIXED];
@@ -177,6 +177,7 @@ static void split(uint32_t width, int changed)
 {
     prepare_tables();
     in.width = width;
+    in.wide = 64;
     for (int i = 0; i < FIXED; i++) {
         in.data[i] = next() >> (64 - width);
         in.check[i] = plain_hsiao_encode(in.data[i]);
@@ -218,17 +219,20 @@ static void hsiao_decode_tables(void) { CORRECT(table_hsiao_decode, theirs); }
 static void hsiao_message_ours(void) { EACH(relay_hsiao_message(in.check[i], in.data[i], &ours.data[i], &ours.value)); }
 static void hsiao_message_plain(void) { EACH(plain_hsiao_message(in.check[i], in.data[i], &theirs.data[i], &theirs.value)); }
 
-#define WIDTH_ENCODE(f, w) EACH(f(in.width, in.data[i], &w.check[i], &w.value))
-#define WIDTH_DECODE(f, w) EACH(f(in.width, in.check[i], in.data[i], &w.check[i], &w.data[i], &w.counts[i], &w.value))
-#define WIDTH_MESSAGE(f, w) EACH(f(in.width, in.check[i], in.data[i], &w.data[i], &w.value))
-static void width_encode_ours(void) { WIDTH_ENCODE(relay_hsiao_width_encode, ours); }
-static void width_encode_plain(void) { WIDTH_ENCODE(plain_width_encode, theirs); }
+#define WIDTH_ENCODE(f, width, w) EACH(f(width, in.data[i], &w.check[i], &w.value))
+#define WIDTH_DECODE(f, width, w) EACH(f(width, in.check[i], in.data[i], &w.check[i], &w.data[i], &w.counts[i], &w.value))
+#define WIDTH_MESSAGE(f, width, w) EACH(f(width, in.check[i], in.data[i], &w.data[i], &w.value))
+static void width_encode_ours(void) { WIDTH_ENCODE(relay_hsiao_width_encode, in.width, ours); }
+static void width_encode_plain(void) { WIDTH_ENCODE(plain_width_encode, in.width, theirs); }
+static void width_encode_wide(void) { WIDTH_ENCODE(relay_hsiao_width_encode, in.wide, theirs); }
 static void width_encode_64(void) { EACH(theirs.check[i] = relay_hsiao_encode(in.data[i])); }
-static void width_decode_ours(void) { WIDTH_DECODE(relay_hsiao_width_decode, ours); }
-static void width_decode_plain(void) { WIDTH_DECODE(plain_width_decode, theirs); }
+static void width_decode_ours(void) { WIDTH_DECODE(relay_hsiao_width_decode, in.width, ours); }
+static void width_decode_plain(void) { WIDTH_DECODE(plain_width_decode, in.width, theirs); }
+static void width_decode_wide(void) { WIDTH_DECODE(relay_hsiao_width_decode, in.wide, theirs); }
 static void width_decode_64(void) { CORRECT(relay_hsiao_decode, theirs); }
-static void width_message_ours(void) { WIDTH_MESSAGE(relay_hsiao_width_message, ours); }
-static void width_message_plain(void) { WIDTH_MESSAGE(plain_width_message, theirs); }
+static void width_message_ours(void) { WIDTH_MESSAGE(relay_hsiao_width_message, in.width, ours); }
+static void width_message_plain(void) { WIDTH_MESSAGE(plain_width_message, in.width, theirs); }
+static void width_message_wide(void) { WIDTH_MESSAGE(relay_hsiao_width_message, in.wide, theirs); }
 static void width_message_64(void) { EACH(relay_hsiao_message(in.check[i], in.data[i], &theirs.data[i], &theirs.value)); }
 
 static void put(uint32_t x)
@@ -301,7 +305,8 @@ static void run_plain(void) { theirs.length = plain_run(in.sheet, in.sheet_len, 
 
 #define WIDTH_CASE(name, prepare, f)                                                                                              \
     {"Widths", name, "diagonals and a scan", prepare, f##_ours, f##_plain, {0}, FIXED, false, false},                             \
-    {"Widths", name, "the (72,64) call", prepare, f##_ours, f##_64, {0}, FIXED, false, false}
+    {"Widths", name, "the (72,64) call", prepare, f##_ours, f##_64, {0}, FIXED, false, false},                                    \
+    {"Widths", name, "the same call, width 64", prepare, f##_ours, f##_wide, {0}, FIXED, false, false}
 
 #define SHEET_CASE(name, prepare)                                                                                                 \
     {"Sheets of 512 words", name, "plain", prepare, run_ours, run_plain, {0}, 1, true, false},                                    \

@@ -1,5 +1,5 @@
-// 02, No. 3: the codes of 16, 32 and 64 data bits, (22,16), (39,32) and (72,64), by this number, their width. The columns of the shorter
-// codes are the first ones of the table, so that the sum of columns, the syndrome and the scan of the table are those of the (72,64) code.
+// Document 02, No. 3: the codes of 16, 32 and 64 data bits, (22,16), (39,32) and (72,64), by this number, their width. The columns of the
+// shorter codes are the first ones of the table: they are the (72,64) code shortened, and have its sum of columns, syndrome and scan.
 use crate::word::Word;
 ghost use mathlib.Core.Path.{_≡_};
 ghost use Prim.Native.Nat.{_^_};
@@ -14,7 +14,7 @@ pub use crate::widths::decoding::decode;
 pub use crate::widths::encoding::encode;
 pub use crate::widths::read_back::message;
 
-// Whether x has no one at this place or beyond.
+// Whether x has no one at place `places` or beyond.
 pub(crate) fn fits(x: u64, places: u8) -> bool
     ensures { λ r. ⌜ r ≡ ltb x (2 ^ places) ⌝ }
 {

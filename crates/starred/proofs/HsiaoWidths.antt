@@ -7,6 +7,7 @@ use Rattle.starred.specs.HsiaoWidths.{HsiaoWidths}
 pub hsiao-widths : HsiaoWidths
 unfolding columns columnsOf
 hsiao-widths = record {
+  sizes = (refl, refl, refl);
   encoded-16 = refl;
   encoded-32 = refl;
   data-beyond = (refl, refl, refl, refl);

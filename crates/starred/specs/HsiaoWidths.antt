@@ -4,14 +4,15 @@ use mathlib.Core.Bool.{cond}
 use mathlib.Core.List.{List, [], _∷_, map}
 use Prim.Native.Nat.{ℕ, suc}
 use lib.Dec.{eqb}
-use lib.ListN.{replicate}
+use lib.ListN.{length, replicate}
 use Rattle.coding.specs.Lists.{tabulate}
 use Rattle.coding.specs.Matrix.{encode}
 use Rattle.words.specs.Refusal.{numberOf, valueOf}
 use Rattle.words.specs.declared.answer.Refusal.the-variants.{NoCodeword, NoWidth, BeyondWidth}
 use Rattle.words.specs.declared.answer.Answer.the-variants.{Done, Refused}
+use Rattle.hsiao.specs.Table.{columns}
 use Rattle.hsiao.specs.Outcome.{countIn}
-use Rattle.hsiao.specs.Widths.Code.{columnsOf}
+use Rattle.hsiao.specs.Widths.Code.{checksOf, columnsOf}
 use Rattle.hsiao.specs.Widths.Causes.{dataAnswer, wordAnswer}
 use Rattle.hsiao.specs.Widths.Decoded.{widthOutcome}
 use Rattle.hsiao.specs.Widths.MessageRead.{messageAnswer}
@@ -31,6 +32,10 @@ abbrev pub ended : ℕ → ℕ → ℕ → ℕ
 ended width c count = howMany count (tabulate (λ check. countIn (widthOutcome width (word check 0))) c)
 
 pub record HsiaoWidths : Type 0 where
+  -- (22,16), (39,32) and (72,64): so many check bits and columns; at width 64 they are those of the (72,64) code
+  pub sizes :
+      (map checksOf (16 ∷ 32 ∷ 64 ∷ []) ≡ 6 ∷ 7 ∷ 8 ∷ []) × (map (λ width. length (columnsOf width)) (16 ∷ 32 ∷ 64 ∷ []) ≡ 16 ∷ 32 ∷ 64 ∷ [])
+      × (columnsOf 64 ≡ columns)
   -- width 16: data 1 has check 07, FFFF 0F, 8000 2C, BEEF 2C
   pub encoded-16 : map (encode (columnsOf 16)) (0x0001 ∷ 0xFFFF ∷ 0x8000 ∷ 0xBEEF ∷ []) ≡ 0x07 ∷ 0x0F ∷ 0x2C ∷ 0x2C ∷ []
   -- width 32: data FFFFFFFF has check 03, 80000000 62, DEADBEEF 05

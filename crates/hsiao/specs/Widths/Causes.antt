@@ -13,7 +13,7 @@ use Rattle.hsiao.specs.declared.word.Word.{Word}
 abbrev pub hasPlaces : ℕ → ℕ → Word → Bool
 hasPlaces c m w = ltb (w .check) (2 ^ c) && ltb (w .«data») (2 ^ m)
 
--- cause 14: the width is none of 16, 32, 64; then cause 15, where this test of the data or the word fails; then the later causes
+-- cause 14: the width is none of 16, 32, 64; then cause 15: the data or check bits are not within it; then the later causes
 abbrev pub widthAnswer : ℕ → Bool → Answer → Answer
 widthAnswer width within later = unless (isWidth width) NoWidth (unless within BeyondWidth later)
 

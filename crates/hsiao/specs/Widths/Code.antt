@@ -14,7 +14,7 @@ use Rattle.hsiao.specs.Table.{columns}
 abbrev pub isWidth : ℕ → Bool
 isWidth width = eqb width 16 || (eqb width 32 || eqb width 64)
 
--- one value for each width; whatever else is no width has that of 64
+-- a value for each width; a number that is none has that of 64
 abbrev byWidth : {A : Type 0} → ℕ → A → A → A → A
 byWidth width at16 at32 at64 = cond (eqb width 16) at16 (cond (eqb width 32) at32 at64)
 
@@ -22,8 +22,7 @@ byWidth width at16 at32 at64 = cond (eqb width 16) at16 (cond (eqb width 32) at3
 abbrev pub checksOf : ℕ → ℕ
 checksOf width = byWidth width 6 7 8
 
--- the columns of the data places: the first 16 words of 6 places and weight 3, the first 32 of 7 places, by rising number; those of 01's
--- table
+-- the columns of the data places: the first 16 words of 6 places and weight 3, by rising number; the first 32 of 7 places; 01's table
 unfoldable pub columnsOf : ℕ → List ℕ
 columnsOf width = byWidth width (take 16 (words 6 3)) (take 32 (words 7 3)) columns
 
@@ -31,8 +30,7 @@ columnsOf width = byWidth width (take 16 (words 6 3)) (take 32 (words 7 3)) colu
 abbrev pub onesOf : ℕ → ℕ
 onesOf width = byWidth width 54 103 216
 
--- what is promised of a width's columns: there are so many; they are different, of odd weight and no single bit; and they have these
--- totals
+-- what is promised of a width's columns: as many as it says, different, of odd weight and no single bit, and with these totals
 pub record WidthTable (width : ℕ) : Type 0 where
   pub size : length (columnsOf width) ≡ width
   pub odd : OddColumns (checksOf width) (columnsOf width)

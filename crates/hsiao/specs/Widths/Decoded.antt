@@ -15,7 +15,7 @@ use Rattle.hsiao.specs.declared.widths.decoding.Decoding.{Decoding}
 abbrev pub widthOutcome : ℕ → Word → Outcome
 widthOutcome width w = outcomeBy (checksOf width) (columnsOf width) w
 
--- on a refusal
+-- what stands for the word on a refusal
 abbrev pub noWord : Word
 noWord = record { check = 0; «data» = 0 }
 

@@ -33,7 +33,7 @@ fn refused(cause: Refusal) -> Decoding
     }
 }
 
-// Of a width with so many check bits. A column beyond the width's is none, so that its syndrome is far.
+// With a number that is a width, and that of its check bits. A later column of the table is none of the code's: such a syndrome is far.
 fn decoded(table: &[u8; 64], width: u8, checks: u8, w: Word) -> Decoding
     requires { ⌜ now table ≡ columns ⌝ }
     requires { ⌜ isWidth width ≡ true ⌝ }
@@ -54,7 +54,8 @@ fn decoded(table: &[u8; 64], width: u8, checks: u8, w: Word) -> Decoding
     }
 }
 
-// Syndrome 0 is clean, a column mends its place, any other is far. A width other than 16, 32 or 64 is refused, then a word beyond it.
+// Syndrome 0 is clean, a column mends its place, any other is far. A width other than 16, 32 or 64 is refused, then a word beyond it. Each
+// width is a call of its own, so that the compiler cuts tests and sum to it.
 pub fn decode(width: u32, w: Word) -> Decoding
     ensures { λ r. ⌜ Decoded width w r ⌝ }
 {

@@ -24,7 +24,7 @@ fn refused(cause: Refusal) -> Encoding
     }
 }
 
-// Of a width.
+// With a number that is a width.
 fn encoded(width: u8, bits: u64) -> Encoding
     requires { ⌜ isWidth width ≡ true ⌝ }
     ensures { λ r. ⌜ Encoded width bits r ⌝ }

@@ -20,7 +20,7 @@ fn refused(cause: Refusal) -> ReadBack
     }
 }
 
-// Of a width with so many check bits.
+// With a number that is a width, and that of its check bits.
 fn read(width: u8, checks: u8, w: Word) -> ReadBack
     requires { ⌜ isWidth width ≡ true ⌝ }
     requires { ⌜ checks ≡ checksOf width ⌝ }
