@@ -23,7 +23,7 @@ use Rattle.coding.specs.Leader.{syndromeOf, noLeader, having, leaderOf}
 use Rattle.coding.specs.Lightest.{orElse}
 use Rattle.coding.specs.Weight.{count}
 use Rattle.coding.specs.Order.{words, order, fill, fills, blanks}
-use Rattle.coding.specs.Inner.Blanks.{blankCount}
+use Rattle.coding.specs.Tries.{blankCount}
 use Rattle.coding.proofs.WeightLaws.{weight-zero}
 use Rattle.coding.proofs.CountLaws.{count-without, count-same, count-some, count-all}
 use Rattle.coding.proofs.LightestLaws.{lightest-one}
@@ -53,7 +53,7 @@ fills-kept syn (w ∷ ws) L s ne =
     let e : getD (fill syn L w) s 0 ≡ getD L s 0 = fill-kept syn L w s ne in
     fills-kept syn ws (fill syn L w) s (λ z. ne (sym e ∙ z)) ∙ e
 
-fill-length : (syn : ℕ → ℕ) (L : List ℕ) (w : ℕ) → length (fill syn L w) ≡ length L
+pub fill-length : (syn : ℕ → ℕ) (L : List ℕ) (w : ℕ) → length (fill syn L w) ≡ length L
 fill-length syn L w = go (eqb (getD L (syn w) 0) (noLeader))
   where
     go : (b : Bool) → length (cond b (set L (syn w) w) L) ≡ length L
@@ -89,11 +89,11 @@ fills-first syn (w ∷ ws) L s (b, a) h z =
 
 -- ---- the words of the order
 
-all-append : (P : ℕ → Type 0) (xs ys : List ℕ) → All P xs → All P ys → All P (xs ++ ys)
+pub all-append : (P : ℕ → Type 0) (xs ys : List ℕ) → All P xs → All P ys → All P (xs ++ ys)
 all-append P [] ys f g = g
 all-append P (x ∷ xs) ys (h, f) g = (h, all-append P xs ys f g)
 
-all-map : (P Q : ℕ → Type 0) (h : ℕ → ℕ) → ((w : ℕ) → P w → Q (h w)) → (xs : List ℕ) → All P xs → All Q (map h xs)
+pub all-map : (P Q : ℕ → Type 0) (h : ℕ → ℕ) → ((w : ℕ) → P w → Q (h w)) → (xs : List ℕ) → All P xs → All Q (map h xs)
 all-map P Q h k [] f = tt
 all-map P Q h k (x ∷ xs) (l, f) = (k x l, all-map P Q h k xs f)
 
@@ -101,10 +101,10 @@ pub all-more : (P Q : ℕ → Type 0) → ((w : ℕ) → P w → Q w) → (xs : 
 all-more P Q k [] f = tt
 all-more P Q k (x ∷ xs) (l, f) = (k x l, all-more P Q k xs f)
 
-abbrev Weighs : ℕ → ℕ → ℕ → Type 0
+abbrev pub Weighs : ℕ → ℕ → ℕ → Type 0
 Weighs m t w = (w < 2 ^ m) × (weight w ≡ t)
 
-words-are : (m t : ℕ) → All (Weighs m t) (words m t)
+pub words-are : (m t : ℕ) → All (Weighs m t) (words m t)
 words-are m zero = ((pow-pos m, weight-zero), tt)
 words-are zero (suc t) = tt
 words-are (suc m) (suc t) =
@@ -158,16 +158,14 @@ map-shift a b [] = refl
 map-shift a b (x ∷ xs) = ap₂ (λ (y : ℕ) (l : List ℕ). y ∷ l) (sym (add-assoc a b x)) (map-shift a b xs)
 
 -- the words from the prefix a on, of m places and weight t: first those without the highest place, then those with it
-pub fills-step : (syn : ℕ → ℕ) (L : List ℕ) (m t a : ℕ) → 0 < m → 0 < t
-    → fills syn (fills syn L (map (λ w. a + w) (words (m - 1) t))) (map (λ w. a + 2 ^ (m - 1) + w) (words (m - 1) (t - 1)))
-    ≡ fills syn L (map (λ w. a + w) (words m t))
-fills-step syn L zero t a h k = absurd (omega arith)
-fills-step syn L (suc m) zero a h k = absurd (omega arith)
-fills-step syn L (suc m) (suc t) a h k =
+pub words-step : (m t a : ℕ) → 0 < m → 0 < t
+    → map (λ w. a + w) (words m t) ≡ map (λ w. a + w) (words (m - 1) t) ++ map (λ w. a + 2 ^ (m - 1) + w) (words (m - 1) (t - 1))
+words-step zero t a h k = absurd (omega arith)
+words-step (suc m) zero a h k = absurd (omega arith)
+words-step (suc m) (suc t) a h k =
     rw (suc-less m, suc-less t)
-    (sym (ap (fills syn L) (map-append (λ w. a + w) (words m (suc t)) (map (λ w. 2 ^ m + w) (words m t)))
-    ∙ fills-append syn L (map (λ w. a + w) (words m (suc t))) (map (λ w. a + w) (map (λ w. 2 ^ m + w) (words m t)))
-    ∙ ap (fills syn (fills syn L (map (λ w. a + w) (words m (suc t))))) (map-shift a (2 ^ m) (words m t))))
+    (map-append (λ w. a + w) (words m (suc t)) (map (λ w. 2 ^ m + w) (words m t))
+    ∙ ap (λ (l : List ℕ). map (λ w. a + w) (words m (suc t)) ++ l) (map-shift a (2 ^ m) (words m t)))
 
 pub fill-blank : (syn : ℕ → ℕ) (L : List ℕ) (w : ℕ) → getD L (syn w) 0 ≡ noLeader → fill syn L w ≡ set L (syn w) w
 fill-blank syn L w e = ap (λ (b : Bool). cond b (set L (syn w) w) L) (eq-eqb (getD L (syn w) 0) (noLeader) e)
@@ -227,17 +225,6 @@ pub blank-all : (m : ℕ) → blankCount (blanks m) ≡ m
 blank-all m =
     ap (count (λ s. eqb (getD (blanks m) s 0) noLeader)) (length-replicate m noLeader)
     ∙ count-all (λ s. eqb (getD (blanks m) s 0) noLeader) m (λ i h. eq-eqb (getD (blanks m) i 0) noLeader (getD-replicate m i noLeader 0 h))
-
--- ---- the words of weight 1, and one word more
-
-pub words-unit : (a p : ℕ) → map (λ w. a + w) (words (p + 1) 1) ≡ map (λ w. a + w) (words p 1) ++ ((a + 2 ^ p) ∷ [])
-words-unit a p =
-    rw add-one
-    (map-append (λ w. a + w) (words p 1) ((2 ^ p + 0) ∷ [])
-    ∙ ap (λ (x : ℕ). map (λ w. a + w) (words p 1) ++ ((a + x) ∷ [])) (add-zero (2 ^ p)))
-
-pub fills-snoc : (syn : ℕ → ℕ) (L xs : List ℕ) (x : ℕ) → fills syn L (xs ++ (x ∷ [])) ≡ fill syn (fills syn L xs) x
-fills-snoc syn L xs x = fills-append syn L xs (x ∷ [])
 
 -- syndromes that agree on the words fill alike
 pub fills-same : (syn syn′ : ℕ → ℕ) (ws L : List ℕ) → All (λ w. syn w ≡ syn′ w) ws → fills syn L ws ≡ fills syn′ L ws

@@ -28,6 +28,8 @@ pub mod OrderLaws  -- words by weight and number
 pub mod LeaderLaws  -- the coset leaders; the nearest codeword
 pub mod RadiusLaws  -- demand 3 from the metric
 pub mod BuildLaws  -- the list that words fill
+pub mod OrderedLaws  -- the order as a list
+pub mod TriesLaws  -- how many words are tried
 pub mod SystematicLaws  -- a matrix [P | I]
 pub mod ColumnLaws  -- codes given by columns
 pub mod ColumnTestLaws  -- one computed test of columns

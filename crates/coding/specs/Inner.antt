@@ -1,3 +1,2 @@
-pub mod Blanks  -- how many entries are blank
 pub mod Beside  -- entries beside the reduced rows
 pub mod SystematicSyndrome  -- the syndrome by a systematic matrix

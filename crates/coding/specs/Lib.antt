@@ -8,6 +8,7 @@ pub mod Lightest  -- the lightest, then smallest of the numbers that pass a test
 pub mod Weight  -- weight counts, minimum distance, the lightest codeword
 pub mod Leader  -- coset leaders
 pub mod Order  -- words by weight and number, and the list they fill
+pub mod Tries  -- how many of them are tried, and the place of the last leader
 pub mod Radius  -- demand 3
 pub mod Systematic  -- a matrix [P | I]
 pub mod Columns  -- codes given by columns

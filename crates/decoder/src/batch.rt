@@ -129,7 +129,7 @@ fn decode_by(
         return unmeasured(a);
     };
     let checks = c.checks;
-    if !fill_leaders(&checks, n, n - k, work) {
+    if fill_leaders(&checks, n, n - k, work) == 0 {
         return unmeasured(Answer::Refused(Refusal::ShortWork));
     }
     let size = 1usize << (n - k);

@@ -1,5 +1,6 @@
 -- What the calls for the leaders promise, from the room in the list and the list that was built. Assumes nothing.
 use mathlib.Core.Path.{_≡_, refl, sym, ap, _∙_}
+use mathlib.Core.Logic.{_≢_}
 use mathlib.Core.List.{List, _++_}
 use mathlib.Core.Bool.{Bool, true, false, cond, false≢true}
 use Prim.Native.Nat.{ℕ, _-_, _^_, _<_}
@@ -7,8 +8,10 @@ use native.Mathlib.Omega.{arith}
 use lib.Dec.{leb}
 use lib.ListN.{length, getD, take, drop, List·getD-append}
 use borrow.Author.Tests.{le-leb}
-use Rattle.coding.specs.Lists.{zeros}
+use Rattle.coding.specs.Lists.{zeros, padded}
+use Rattle.coding.specs.Check.{checks}
 use Rattle.coding.specs.Leader.{leaderOf}
+use Rattle.coding.specs.Tries.{LastLeader}
 use Rattle.coding.proofs.ListLaws.{getD-tabulate}
 use Rattle.words.specs.Limits.{maxChecks, width}
 use Rattle.words.specs.Accepted.{matrixAnswer, Accepted}
@@ -20,27 +23,29 @@ use Rattle.words.proofs.AcceptedLaws.{in-accepted}
 use Rattle.words.proofs.CodeLaws.{leader-at, light}
 use Rattle.parity.specs.ParityChecks.{ParityChecksOf}
 use Rattle.leaders.specs.Leaders.{workAnswer, leadersAnswer, leadersList, LeadersOf}
-use Rattle.leaders.specs.LeadersBy.{filledBy, leadersFit, LeadersBy}
+use Rattle.leaders.specs.LeadersBy.{filledBy, triedBy, leadersFit, LeadersBy}
 use Rattle.leaders.specs.declared.leaders.Leaders.{Leaders}
-use Rattle.leaders.proofs.BuiltLaws.{leaders-long, leaders-are}
+use Rattle.leaders.proofs.BuiltLaws.{tried-some, leaders-long, leaders-are, place-is}
 
 -- ---- by check rows
 
 module _ (hs : List ℕ) (n c : ℕ) (before : List ℕ) where
-  pub no-room : leadersFit n c (length before) ≡ false → LeadersBy hs n c before false before
-  no-room e = record { answer = sym e; list = refl; of-matrix = λ k rows A d q t. absurd (false≢true t) }
+  pub no-room : leadersFit n c (length before) ≡ false → LeadersBy hs n c before 0 before
+  no-room e = record { tries = rw e refl; room = sym e; list = rw e refl; of-matrix = λ k rows A d q t. absurd (false≢true (sym e ∙ t)) }
 
-  pub filled-by : leadersFit n c (length before) ≡ true → (list : List ℕ) → list ≡ filledBy (take c hs) n c
-      → LeadersBy hs n c before true (list ++ drop (2 ^ c) before)
-  filled-by e list f = record {
-    answer = sym e;
-    list = ap (λ (l : List ℕ). l ++ drop (2 ^ c) before) f;
-    of-matrix = λ k rows A d q t. rw (f, d, q) (ap (λ (l : List ℕ). l ++ drop (2 ^ (n - k)) before) (leaders-are n k rows A));
+  pub filled-by : leadersFit n c (length before) ≡ true → (list : List ℕ) (r : ℕ) → list ≡ filledBy (take c hs) n c → r ≡ triedBy (take c hs) n c
+      → LeadersBy hs n c before r (list ++ drop (2 ^ c) before)
+  filled-by e list r f g = record {
+    tries = rw e g;
+    room = le-leb 1 r (rw g (tried-some (take c hs) n c)) ∙ sym e;
+    list = rw e (ap (λ (l : List ℕ). l ++ drop (2 ^ c) before) f);
+    of-matrix = λ k rows A d q t.
+        (rw (f, d, q) (ap (λ (l : List ℕ). l ++ drop (2 ^ (n - k)) before) (leaders-are n k rows A)), rw (g, d, q) (place-is n k rows A));
   }
 
--- without room the list is as it was
-pub list-kept : {hs : List ℕ} {n c : ℕ} {before : List ℕ} {r : Bool} {after : List ℕ} → LeadersBy hs n c before r after → r ≡ false → after ≡ before
-list-kept L e = rw e at (L .list)
+-- 0 tells that there is no room, and the list is as it was
+pub list-kept : {hs : List ℕ} {n c : ℕ} {before : List ℕ} {r : ℕ} {after : List ℕ} → LeadersBy hs n c before r after → r ≡ 0 → after ≡ before
+list-kept L e = rw (sym (L .room) ∙ ap (leb 1) e) at (L .list)
 
 -- ---- of an accepted matrix
 
@@ -49,11 +54,22 @@ module _ (n k : ℕ) (rows : List ℕ) (A : Accepted n k rows) where
   fit-is : (room : ℕ) → leadersFit n (n - k) room ≡ leb (2 ^ (n - k)) room
   fit-is room = simp (le-leb n width (omega (arith, A .range .places)), le-leb (n - k) maxChecks (omega (arith, A .range .checks)))
 
-  -- cause 9 is told by the build
-  pub work-told : {hs before after : List ℕ} {r : Bool} → LeadersBy hs n (n - k) before r after
-      → (b : Bool) → r ≡ b → workAnswer (length before) (2 ^ (n - k)) ≡ cond b Done (Refused ShortWork)
-  work-told {before = before} L true e = simp (sym (fit-is (length before)) ∙ sym (L .answer) ∙ e)
-  work-told {before = before} L false e = simp (sym (fit-is (length before)) ∙ sym (L .answer) ∙ e)
+  module _ {hs before after : List ℕ} {r : ℕ} (L : LeadersBy hs n (n - k) before r after) where
+    work-told : (b : Bool) → leb 1 r ≡ b → workAnswer (length before) (2 ^ (n - k)) ≡ cond b Done (Refused ShortWork)
+    work-told true e = simp (sym (fit-is (length before)) ∙ sym (L .room) ∙ e)
+    work-told false e = simp (sym (fit-is (length before)) ∙ sym (L .room) ∙ e)
+
+    -- cause 9 is told by the build: no word was tried
+    pub work-short : r ≡ 0 → workAnswer (length before) (2 ^ (n - k)) ≡ Refused ShortWork
+    work-short e = work-told false (ap (leb 1) e)
+
+    pub work-done : r ≢ 0 → workAnswer (length before) (2 ^ (n - k)) ≡ Done
+    work-done ne = work-told true (le-leb 1 r (omega arith))
+
+    -- else the leaders stand in the list
+    pub leaders-stand : r ≢ 0 → hs ≡ padded maxChecks (checks n rows)
+        → (after ≡ leadersList n k rows ++ drop (2 ^ (n - k)) before) × ((last : ℕ) × LastLeader n rows (n - k) last r)
+    leaders-stand ne e = L .of-matrix k rows A refl e (sym (L .room) ∙ le-leb 1 r (omega arith))
 
   -- where the list begins with the leaders, entry s is that of s
   pub leader-slot : (rest : List ℕ) (s : ℕ) → s < 2 ^ (n - k) → getD (leadersList n k rows ++ rest) s 0 ≡ leaderOf n rows s
@@ -62,15 +78,18 @@ module _ (n k : ℕ) (rows : List ℕ) (A : Accepted n k rows) where
 
   -- a success writes the leaders
   pub leaders-written : (before : List ℕ) (r : Leaders) → r .answer ≡ Done → workAnswer (length before) (2 ^ (n - k)) ≡ Done
-      → ParityChecksOf n k rows (record { answer = Done; rows = r .checks }) → (after : List ℕ) → after ≡ leadersList n k rows ++ drop (2 ^ (n - k)) before
+      → ParityChecksOf n k rows (record { answer = Done; rows = r .checks }) → (after : List ℕ)
+      → (after ≡ leadersList n k rows ++ drop (2 ^ (n - k)) before) × ((last : ℕ) × LastLeader n rows (n - k) last (r .tried))
       → LeadersOf n k rows before r after
-  leaders-written before r d w c after e = record {
+  leaders-written before r d w c after (e, t) = record {
     answer = d ∙ sym (rw (in-accepted n k rows A, w) refl);
     checks = λ _. rw d c;
     no-checks = λ _ q. refused-done (sym q ∙ d);
     list = rw d (filled (leadersList n k rows) before after (2 ^ (n - k)) (leaders-long n k rows A) e);
     leader = λ _ s l. rw (e, leader-slot (drop (2 ^ (n - k)) before) s l) (leader-at n k rows A s l);
     light = λ _ s l. rw (e, leader-slot (drop (2 ^ (n - k)) before) s l) (light n k rows A s l);
+    tries = λ _. t;
+    no-tries = λ _ q. refused-done (sym q ∙ d);
   }
 
 -- ---- a refusal
@@ -83,13 +102,15 @@ module _ (n k : ℕ) (rows : List ℕ) where
   work-refuses room A e = rw (in-accepted n k rows A, e) refl
 
   -- it writes nothing
-  pub leaders-refused : (before after : List ℕ) → after ≡ before → (r : Leaders) (c : Refusal) → r .answer ≡ Refused c → r .checks ≡ zeros maxChecks
-      → Refused c ≡ leadersAnswer n k rows (length before) → LeadersOf n k rows before r after
+  pub leaders-refused : (before after : List ℕ) → after ≡ before → (r : Leaders) (c : Refusal) → r .answer ≡ Refused c
+      → (r .checks ≡ zeros maxChecks) × (r .tried ≡ 0) → Refused c ≡ leadersAnswer n k rows (length before) → LeadersOf n k rows before r after
   leaders-refused before after s r c e z a = record {
     answer = e ∙ a;
     checks = λ d. refused-done (sym e ∙ d);
-    no-checks = λ _ _. z;
+    no-checks = λ _ _. z .0;
     list = s ∙ kept (r .answer) c e (leadersList n k rows) before;
     leader = λ d. refused-done (sym e ∙ d);
     light = λ d. refused-done (sym e ∙ d);
+    tries = λ d. refused-done (sym e ∙ d);
+    no-tries = λ _ _. z .1;
   }

@@ -1,12 +1,13 @@
 -- Laws of the build, step by step: what is known of the next word, and how the recursion goes on. Assumes nothing.
 use mathlib.Core.Path.{_≡_, refl, sym, ap, ap₂, _∙_}
-use mathlib.Core.Logic.{_≢_}
+use mathlib.Core.Logic.{_≢_, _⊎_, inl, inr, ⊎-elim}
 use mathlib.Core.List.{List, [], _∷_, map}
 use Prim.Native.Nat.{ℕ, zero, suc, _+_, _-_, _*_, _%_, _^_, _≤_, _<_}
-use native.Mathlib.Nat.{pow-suc, add-mul, mul-assoc, one-mul, add-zero, zero-add, zero-mul, le-of-lt}
+use native.Mathlib.Nat.{pow-suc, add-mul, mul-assoc, one-mul, add-zero, zero-add, suc-add, zero-mul, le-of-lt}
 use native.Mathlib.Numerals.{add-one}
+use native.Mathlib.Decide.{decLe}
 use native.Mathlib.Omega.{arith}
-use lib.ListN.{length, getD, set, length-set, length-replicate, getD-replicate}
+use lib.ListN.{length, getD, set, length-set, length-map, length-replicate, getD-replicate}
 use lib.Pow.{pow-lt, pow-pos, pow-add, pow-mono}
 use lib.Bits.{xor-shifted}
 use lib.Count.{ones-cat, ones-ones}
@@ -15,14 +16,16 @@ use Rattle.coding.specs.Matrix.{encode, Inside}
 use Rattle.coding.specs.Check.{syndrome}
 use Rattle.coding.specs.Leader.{noLeader}
 use Rattle.coding.specs.Order.{words, order, fill, fills, blanks}
-use Rattle.coding.specs.Inner.Blanks.{blankCount}
+use Rattle.coding.specs.Tries.{blankCount, tried}
 use Rattle.coding.proofs.MachineLaws.{shl-one}
 use Rattle.coding.proofs.WeightLaws.{weight-zero, weight-pow}
 use Rattle.coding.proofs.MatrixLaws.{encode-xor, encode-zero, row-message}
 use Rattle.coding.proofs.LinearLaws.{syndrome-columns}
 use Rattle.coding.proofs.ListLaws.{length-tabulate, getD-tabulate}
-use Rattle.coding.proofs.BuildLaws.{fill-blank, fill-held, fills-length, fills-step, fills-done, fills-snoc, fills-append, words-few, words-unit, blank-set, blank-all}
-use Rattle.leaders.specs.Inner.Built.{columnsOf, Trying, Tried}
+use Rattle.coding.proofs.BuildLaws.{fill-blank, fill-held, fills-length, fills-done, fills-append, words-few, words-step, blank-set, blank-all}
+use Rattle.coding.proofs.OrderedLaws.{words-count, order-count, order-fewer}
+use Rattle.coding.proofs.TriesLaws.{tried-done, tried-next, tried-append, tried-le}
+use Rattle.leaders.specs.Inner.Built.{columnsOf, Trying, Tried, TriedUnits}
 
 -- ---- the columns
 
@@ -52,22 +55,61 @@ tries prefix m t = map (λ w. prefix + w) (words m t)
 abbrev pub oneAt : ℕ → ℕ
 oneAt p = (1 * 2 ^ p) % 2 ^ 32
 
-pub tried-long : {before cols : List ℕ} {m t prefix : ℕ} {after : List ℕ} {blank : ℕ} → Tried before cols m t prefix after blank
+pub tried-long : {before cols : List ℕ} {m t prefix : ℕ} {after : List ℕ} {blank r : ℕ} → Tried before cols m t prefix after blank r
     → length after ≡ length before
 tried-long {before} {cols} {m} {t} {prefix} R = ap length (R .filled) ∙ fills-length (encode cols) (tries prefix m t) before
 
+-- no more words than there are numbers of m places
+pub tried-small : {before cols : List ℕ} {m t prefix : ℕ} {after : List ℕ} {blank r : ℕ} → Tried before cols m t prefix after blank r
+    → m ≤ 32 → r ≤ 2 ^ 32
+tried-small {before} {cols} {m} {t} {prefix} R h =
+    let l : tried (encode cols) before (tries prefix m t) ≤ length (tries prefix m t) = tried-le (encode cols) (tries prefix m t) before in
+    omega (arith, R .count, l, length-map (words m t) (λ w. prefix + w), words-count m t, pow-mono {i = m} {j = 32} h)
+
 -- nothing is blank, or there are fewer places than ones
-pub tried-done : {list cols : List ℕ} {m t prefix blank : ℕ} → blank ≡ blankCount list → blank ≡ 0 → Tried list cols m t prefix list 0
-tried-done {list} {cols} {m} {t} {prefix} e z = record {
+tried-none : {list cols : List ℕ} {m t prefix blank : ℕ} → blank ≡ blankCount list → blank ≡ 0 → Tried list cols m t prefix list blank 0
+tried-none {list} {cols} {m} {t} {prefix} e z = record {
   filled = sym (fills-done (encode cols) (tries prefix m t) list (sym e ∙ z));
-  left = sym z ∙ e;
+  left = e;
+  count = sym (tried-done (encode cols) (tries prefix m t) list (sym e ∙ z));
 }
 
-pub tried-few : {list cols : List ℕ} {m t prefix blank : ℕ} → blank ≡ blankCount list → m < t → Tried list cols m t prefix list blank
+tried-few : {list cols : List ℕ} {m t prefix blank : ℕ} → blank ≡ blankCount list → m < t → Tried list cols m t prefix list blank 0
 tried-few {list} {cols} {m} {t} {prefix} e h = record {
   filled = sym (ap (λ (l : List ℕ). fills (encode cols) list (map (λ w. prefix + w) l)) (words-few m t h));
   left = e;
+  count = sym (ap (λ (l : List ℕ). tried (encode cols) list (map (λ w. prefix + w) l)) (words-few m t h));
 }
+
+-- the words without the highest place, then those with it
+tried-both : {list between after cols : List ℕ} {m t prefix left end r r′ : ℕ} → m ≤ 32 → 1 ≤ m → 1 ≤ t
+    → Tried list cols (m - 1) t prefix between left r
+    → Tried between cols (m - 1) (t - 1) (prefix + oneAt (m - 1)) after end r′ → Tried list cols m t prefix after end (r + r′)
+tried-both {list} {between} {after} {cols} {m} {t} {prefix} {left} {end} {r} {r′} places h k R S = record {
+  filled = last .filled ∙ ap (λ (l : List ℕ). fills (encode cols) l high) (R .filled) ∙ sym (fills-append (encode cols) list low high)
+      ∙ ap (fills (encode cols) list) (sym (words-step m t prefix h k));
+  left = S .left;
+  count = ap₂ _+_ (R .count) (last .count ∙ ap (λ (l : List ℕ). tried (encode cols) l high) (R .filled))
+      ∙ sym (tried-append (encode cols) list low high) ∙ ap (tried (encode cols) list) (sym (words-step m t prefix h k));
+}
+  where
+    low : List ℕ
+    low = tries prefix (m - 1) t
+
+    high : List ℕ
+    high = tries (prefix + 2 ^ (m - 1)) (m - 1) (t - 1)
+
+    last : Tried between cols (m - 1) (t - 1) (prefix + 2 ^ (m - 1)) after end r′
+    last = rw (shl-one (m - 1) 32 (omega arith)) at S
+
+-- where no entry is blank any more, words with higher places change nothing
+tried-wider : {list cols : List ℕ} {p t prefix : ℕ} {after : List ℕ} {left r : ℕ} → 1 ≤ t → Tried list cols p t prefix after left r → left ≡ 0
+    → (d : ℕ) → d + p ≤ 32 → Tried list cols (d + p) t prefix after left r
+tried-wider {p = p} k R z zero h = rw (zero-add p) R
+tried-wider {list} {cols} {p} {t} {prefix} {after} {left} {r} k R z (suc d) h =
+    let under : suc d + p - 1 ≡ d + p = omega arith in
+    let low : Tried list cols (suc d + p - 1) t prefix after left r = rw under (tried-wider k R z d (omega arith)) in
+    rw (add-zero r) at (tried-both h (omega arith) k low (tried-none (R .left) z))
 
 -- a word lighter than 32 is not the blank entry
 light-word : (w : ℕ) → weight w < 32 → w ≢ noLeader
@@ -88,6 +130,7 @@ module _ {list cols : List ℕ} {m t prefix s blank : ℕ} (T : Trying list cols
     at = T .at;
     entries = T .entries;
     left = T .left;
+    more = T .more;
   }
     where
       parts : 2 ^ m ≡ 2 ^ (m - p) * 2 ^ p
@@ -120,9 +163,9 @@ module _ {list cols : List ℕ} {m t prefix s blank : ℕ} (T : Trying list cols
     place-fits = rw one-at (omega (arith, T .room, pow-lt h))
 
     -- then those that have place p and none above it
-    pub trying-high : {after : List ℕ} {left : ℕ} → 2 ≤ t → Tried list cols p t prefix after left
+    pub trying-high : {after : List ℕ} {left r : ℕ} → 2 ≤ t → Tried list cols p t prefix after left r → 1 ≤ left
         → Trying after cols p (t - 1) (prefix + oneAt p) (s ⊕ getD cols p 0) left
-    trying-high two R =
+    trying-high two R more =
         let (a, above) = trying-low (le-of-lt h) .above in
         rw one-at (record {
           columns = T .columns;
@@ -134,130 +177,119 @@ module _ {list cols : List ℕ} {m t prefix s blank : ℕ} (T : Trying list cols
           at = place-syndrome;
           entries = λ w. rw (tried-long R) (T .entries w);
           left = R .left;
+          more = more;
         })
 
-pub tried-both : {list between after cols : List ℕ} {m t prefix left end : ℕ} → m ≤ 32 → 1 ≤ m → 1 ≤ t
-    → Tried list cols (m - 1) t prefix between left
-    → Tried between cols (m - 1) (t - 1) (prefix + oneAt (m - 1)) after end → Tried list cols m t prefix after end
-tried-both {list} {between} {after} {cols} {m} {t} {prefix} places h k R S = record {
-  filled = S .filled ∙ ap (λ (x : ℕ). fills (encode cols) between (tries (prefix + x) (m - 1) (t - 1))) (shl-one (m - 1) 32 (omega arith))
-      ∙ ap (λ (l : List ℕ). fills (encode cols) l (tries (prefix + 2 ^ (m - 1)) (m - 1) (t - 1))) (R .filled)
-      ∙ fills-step (encode cols) list m t prefix h k;
-  left = S .left;
+-- ---- the words by their highest place
+
+-- those whose places lie below p have been tried, and an entry is blank
+pub record Rising (list₀ cols : List ℕ) (m t prefix s blank : ℕ) (list : List ℕ) (left r p : ℕ) : Type 0 where
+  pub trying : Trying list₀ cols m t prefix s blank
+  pub some : t ≤ p + 1
+  pub upto : (p ≤ m) ⊎ (p < t)
+  pub so-far : Tried list₀ cols p t prefix list left r
+  pub more : 1 ≤ left
+
+-- none has fewer places than ones
+pub rising-start : {list cols : List ℕ} {m t prefix s blank : ℕ} → Trying list cols m t prefix s blank
+    → Rising list cols m t prefix s blank list blank 0 (t - 1)
+rising-start T = record {
+  trying = T;
+  some = omega arith;
+  upto = inr (omega (arith, T .some));
+  so-far = tried-few (T .left) (omega (arith, T .some));
+  more = T .more;
 }
 
--- ---- the words prefix + 2 ^ p, one after the other
+module _ {list₀ cols : List ℕ} {m t prefix s blank : ℕ} {list : List ℕ} {left r p : ℕ} (P : Rising list₀ cols m t prefix s blank list left r p) where
+  -- those with p as their highest place are next
+  module _ {after : List ℕ} {end r′ : ℕ} (h : p < m) (S : Tried list cols p (t - 1) (prefix + oneAt p) after end r′) where
+    with-place : Tried list₀ cols (p + 1) t prefix after end (r + r′)
+    with-place =
+        let under : p + 1 - 1 ≡ p = omega arith in
+        tried-both {between = list} {left = left} (omega (arith, P .trying .places)) (omega arith) (P .trying .some) (rw under (P .so-far)) (rw under S)
 
--- those below place p have been tried
-pub record Units (list₀ cols : List ℕ) (m prefix s blank : ℕ) (list : List ℕ) (left p : ℕ) : Type 0 where
-  pub trying : Trying list₀ cols m 1 prefix s blank
-  pub upto : p ≤ m
-  pub long : length list ≡ length list₀
-  pub filled : list ≡ fills (encode cols) list₀ (tries prefix p 1)
-  pub counted : left ≡ blankCount list
+    pub rising-next : 1 ≤ end → Rising list₀ cols m t prefix s blank after end (r + r′) (p + 1)
+    rising-next more = record { trying = P .trying; some = omega (arith, P .some); upto = inl (omega arith); so-far = with-place; more = more }
 
-pub units-start : {list cols : List ℕ} {m prefix s blank : ℕ} → Trying list cols m 1 prefix s blank → Units list cols m prefix s blank list blank 0
-units-start T = record { trying = T; upto = omega arith; long = refl; filled = refl; counted = T .left }
+    -- no entry is blank any more, and the others would change nothing
+    pub rising-full : end ≡ 0 → Tried list₀ cols m t prefix after end (r + r′)
+    rising-full z =
+        let e : m - (p + 1) + (p + 1) ≡ m = omega arith in
+        rw e at (tried-wider (P .trying .some) with-place z (m - (p + 1)) (omega (arith, P .trying .places)))
 
-module _ {list₀ cols : List ℕ} {m prefix s blank : ℕ} {list : List ℕ} {left p : ℕ} (U : Units list₀ cols m prefix s blank list left p) where
+  -- all have been tried
+  pub rising-end : m ≤ p → Tried list₀ cols m t prefix list left r
+  rising-end h = go (P .upto)
+    where
+      go : (p ≤ m) ⊎ (p < t) → Tried list₀ cols m t prefix list left r
+      go (inl l) = let e : p ≡ m = omega arith in rw e at (P .so-far)
+      go (inr l) =
+          let e : words p t ≡ words m t = words-few p t l ∙ sym (words-few m t (omega arith)) in
+          record {
+            filled = P .so-far .filled ∙ ap (λ (ws : List ℕ). fills (encode cols) list₀ (map (λ w. prefix + w) ws)) e;
+            left = P .so-far .left;
+            count = P .so-far .count ∙ ap (λ (ws : List ℕ). tried (encode cols) list₀ (map (λ w. prefix + w) ws)) e;
+          }
+
+-- ---- one place more: the words prefix + 2 ^ p, one after the other
+
+module _ {list₀ cols : List ℕ} {m prefix s blank : ℕ} {list : List ℕ} {left p : ℕ} (U : Rising list₀ cols m 1 prefix s blank list left p p) where
   module _ (h : p < m) where
     -- the entry that the word asks for, in the list at first and now
     pub unit-slot : s ⊕ getD cols p 0 < length list₀
     unit-slot = rw (place-syndrome (U .trying) h) (U .trying .entries (prefix + 2 ^ p))
 
     pub unit-entry : s ⊕ getD cols p 0 < length list
-    unit-entry = rw (U .long) unit-slot
+    unit-entry = rw (tried-long (U .so-far)) unit-slot
 
-    next : fills (encode cols) list₀ (tries prefix (p + 1) 1) ≡ fill (encode cols) list (prefix + 2 ^ p)
-    next =
-        ap (fills (encode cols) list₀) (words-unit prefix p) ∙ fills-snoc (encode cols) list₀ (tries prefix p 1) (prefix + 2 ^ p)
-        ∙ ap (λ (l : List ℕ). fill (encode cols) l (prefix + 2 ^ p)) (sym (U .filled))
+    once : tried (encode cols) list (tries (prefix + 2 ^ p) p 0) ≡ 1
+    once = tried-next (encode cols) (prefix + 2 ^ p + 0) [] list (omega (arith, U .so-far .left, U .more))
 
     -- a blank entry takes the word, and one blank less is left
     module _ (e : getD list (s ⊕ getD cols p 0) 0 ≡ noLeader) where
       less : blankCount (set list (s ⊕ getD cols p 0) (prefix + 2 ^ p)) + 1 ≡ left
       less =
           let light = light-word (prefix + 2 ^ p) (omega (arith, place-weight (U .trying) h, U .trying .light)) in
-          blank-set list (s ⊕ getD cols p 0) (prefix + 2 ^ p) unit-entry e light ∙ sym (U .counted)
+          blank-set list (s ⊕ getD cols p 0) (prefix + 2 ^ p) unit-entry e light ∙ sym (U .so-far .left)
 
-      pub unit-left : 1 ≤ left
-      unit-left = omega (arith, less)
-
-      pub unit-stored : Units list₀ cols m prefix s blank (set list (s ⊕ getD cols p 0) (prefix + oneAt p)) (left - 1) (p + 1)
+      pub unit-stored : Tried list cols p 0 (prefix + oneAt p) (set list (s ⊕ getD cols p 0) (prefix + oneAt p)) (left - 1) 1
       unit-stored =
           let at = place-syndrome (U .trying) h in
           rw (one-at (U .trying) h) (record {
-            trying = U .trying;
-            upto = omega arith;
-            long = length-set list (s ⊕ getD cols p 0) (prefix + 2 ^ p) ∙ U .long;
             filled = ap (λ (x : ℕ). set list x (prefix + 2 ^ p)) at
-                ∙ sym (next ∙ fill-blank (encode cols) list (prefix + 2 ^ p) (ap (λ (x : ℕ). getD list x 0) (sym at) ∙ e));
-            counted = omega (arith, less);
+                ∙ sym (ap (fill (encode cols) list) (add-zero (prefix + 2 ^ p))
+                ∙ fill-blank (encode cols) list (prefix + 2 ^ p) (ap (λ (x : ℕ). getD list x 0) (sym at) ∙ e));
+            left = omega (arith, less);
+            count = sym once;
           })
 
-    pub unit-held : getD list (s ⊕ getD cols p 0) 0 ≢ noLeader → Units list₀ cols m prefix s blank list left (p + 1)
-    unit-held ne = record {
-      trying = U .trying;
-      upto = omega arith;
-      long = U .long;
-      filled = sym (next ∙ fill-held (encode cols) list (prefix + 2 ^ p) (λ q. ne (ap (λ (x : ℕ). getD list x 0) (place-syndrome (U .trying) h) ∙ q)));
-      counted = U .counted;
-    }
+    unit-held : getD list (s ⊕ getD cols p 0) 0 ≢ noLeader → Tried list cols p 0 (prefix + oneAt p) list left 1
+    unit-held ne = rw (one-at (U .trying) h) (record {
+      filled = sym (ap (fill (encode cols) list) (add-zero (prefix + 2 ^ p))
+          ∙ fill-held (encode cols) list (prefix + 2 ^ p) (λ q. ne (ap (λ (x : ℕ). getD list x 0) (place-syndrome (U .trying) h) ∙ q)));
+      left = U .so-far .left;
+      count = sym once;
+    })
 
-  -- all have been tried; or no entry is blank any more, and the others would change nothing
-  pub units-end : m ≤ p → Tried list₀ cols m 1 prefix list left
-  units-end h = let e : p ≡ m = omega (arith, U .upto) in record { filled = rw e at (U .filled); left = U .counted }
+    pub unit-passed : getD list (s ⊕ getD cols p 0) 0 ≢ noLeader → Rising list₀ cols m 1 prefix s blank list left (p + 1) (p + 1)
+    unit-passed ne = rising-next U h (unit-held ne) (U .more)
 
-  pub units-full : left ≡ 0 → Tried list₀ cols m 1 prefix list 0
-  units-full z = record { filled = whole; left = sym z ∙ U .counted }
+  -- the word at place p has filled the last blank entry; or all have been tried, and entries are blank
+  pub units-full : {after : List ℕ} {end : ℕ} → p < m → Tried list cols p 0 (prefix + oneAt p) after end 1 → end ≡ 0
+      → TriedUnits list₀ cols m prefix after end p
+  units-full h S z = record { ended = λ _. (rising-full U h S z, z); left = λ l. absurd (omega arith) }
+
+  pub units-end : m ≤ p → TriedUnits list₀ cols m prefix list left m
+  units-end h = record { ended = λ l. absurd (omega arith); left = λ _. (rw e at (rising-end U h), U .more) }
     where
-      upto : ℕ → List ℕ
-      upto i = fills (encode cols) list₀ (tries prefix i 1)
-
-      more : (k : ℕ) → upto (k + p) ≡ list
-      more zero = ap upto (zero-add p) ∙ sym (U .filled)
-      more (suc k) =
-          let e : suc k + p ≡ k + p + 1 = omega arith in
-          ap upto e ∙ ap (fills (encode cols) list₀) (words-unit prefix (k + p))
-          ∙ fills-snoc (encode cols) list₀ (tries prefix (k + p) 1) (prefix + 2 ^ (k + p))
-          ∙ ap (λ (l : List ℕ). fill (encode cols) l (prefix + 2 ^ (k + p))) (more k)
-          ∙ fills-done (encode cols) ((prefix + 2 ^ (k + p)) ∷ []) list (sym (U .counted) ∙ z)
-
-      whole : list ≡ upto m
-      whole = let e : m - p + p ≡ m = omega (arith, U .upto) in sym (ap upto (sym e) ∙ more (m - p))
-
--- ---- pairs of places, by the higher one
-
--- the pairs below place p have been tried
-pub record Pairs (list₀ cols : List ℕ) (m prefix s blank : ℕ) (list : List ℕ) (left p : ℕ) : Type 0 where
-  pub trying : Trying list₀ cols m 2 prefix s blank
-  pub some : 1 ≤ p
-  pub upto : p ≤ m
-  pub tried : Tried list₀ cols p 2 prefix list left
-
-pub pairs-start : {list cols : List ℕ} {m prefix s blank : ℕ} → 2 ≤ m → Trying list cols m 2 prefix s blank
-    → Pairs list cols m prefix s blank list blank 1
-pairs-start h T = record { trying = T; some = omega arith; upto = omega arith; tried = tried-few (T .left) (omega arith) }
-
-module _ {list₀ cols : List ℕ} {m prefix s blank : ℕ} {list : List ℕ} {left p : ℕ} (P : Pairs list₀ cols m prefix s blank list left p) where
-  pub pair-next : {after : List ℕ} {end : ℕ} → p < m → Tried list cols p 1 (prefix + oneAt p) after end
-      → Pairs list₀ cols m prefix s blank after end (p + 1)
-  pair-next h S =
-      let under : p + 1 - 1 ≡ p = omega arith in
-      record {
-        trying = P .trying;
-        some = omega arith;
-        upto = omega arith;
-        tried = tried-both {between = list} {left = left} (omega (arith, P .trying .places)) (omega arith) (omega arith) (rw under (P .tried)) (rw under S);
-      }
-
-  pub pairs-end : m ≤ p → Tried list₀ cols m 2 prefix list left
-  pairs-end h = let e : p ≡ m = omega (arith, P .upto) in rw e at (P .tried)
+      e : p ≡ m
+      e = ⊎-elim (λ l. omega arith) (λ l. omega arith) (U .upto)
 
 -- ---- weight by weight
 
--- the words of weight below t have been tried on a blank list
-pub record Offered (size : ℕ) (cols : List ℕ) (n c t : ℕ) (list : List ℕ) (left : ℕ) : Type 0 where
+-- the words of weight below t have been tried on a blank list, r of them
+pub record Offered (size : ℕ) (cols : List ℕ) (n c t : ℕ) (list : List ℕ) (left r : ℕ) : Type 0 where
   pub columns : length cols ≡ 32
   pub places : n ≤ 32
   pub light : c < 32
@@ -267,6 +299,7 @@ pub record Offered (size : ℕ) (cols : List ℕ) (n c t : ℕ) (list : List ℕ
   pub long : length list ≡ size
   pub filled : list ≡ fills (encode cols) (blanks size) (order n t)
   pub counted : left ≡ blankCount list
+  pub number : r ≡ tried (encode cols) (blanks size) (order n t)
 
 -- the zero word takes entry 0 of a blank list
 module _ {list : List ℕ} (size : ℕ) (e : list ≡ blanks size) where
@@ -274,7 +307,7 @@ module _ {list : List ℕ} (size : ℕ) (e : list ≡ blanks size) where
   zero-long = length-set list 0 0 ∙ ap length e ∙ length-replicate size noLeader
 
   pub offered-start : {cols : List ℕ} {n c : ℕ} → length cols ≡ 32 → n ≤ 32 → c < 32 → ((w : ℕ) → encode cols w < size)
-      → Offered (length (set list 0 0)) cols n c 1 (set list 0 0) (length (set list 0 0) - 1)
+      → Offered (length (set list 0 0)) cols n c 1 (set list 0 0) (length (set list 0 0) - 1) 1
   offered-start {cols} columns places light entries =
       let h : 0 < size = rw (encode-zero cols) at (entries 0) in
       let b : getD (blanks size) 0 0 ≡ noLeader = getD-replicate size 0 noLeader 0 h in
@@ -290,11 +323,12 @@ module _ {list : List ℕ} (size : ℕ) (e : list ≡ blanks size) where
             ∙ sym (fill-blank (encode cols) (blanks size) 0 (ap (λ (x : ℕ). getD (blanks size) x 0) (encode-zero cols) ∙ b));
         counted = omega
             (arith, blank-set (blanks size) 0 0 (rw (length-replicate size noLeader) h) b (light-word 0 (omega (arith, weight-zero))), blank-all size);
+        number = sym (tried-next (encode cols) 0 [] (blanks size) (rw (blank-all size) h));
       })
 
-module _ {size : ℕ} {cols : List ℕ} {n c t : ℕ} {list : List ℕ} {left : ℕ} (O : Offered size cols n c t list left) where
-  pub offered-trying : t ≤ c → Trying list cols n t 0 0 left
-  offered-trying h = record {
+module _ {size : ℕ} {cols : List ℕ} {n c t : ℕ} {list : List ℕ} {left r : ℕ} (O : Offered size cols n c t list left r) where
+  pub offered-trying : t ≤ c → 1 ≤ left → Trying list cols n t 0 0 left
+  offered-trying h more = record {
     columns = O .columns;
     places = O .places;
     some = O .some;
@@ -304,10 +338,11 @@ module _ {size : ℕ} {cols : List ℕ} {n c t : ℕ} {list : List ℕ} {left : 
     at = sym (encode-zero cols);
     entries = λ w. rw (O .long) (O .entries w);
     left = O .counted;
+    more = more;
   }
 
-  pub offered-next : {after : List ℕ} {more : ℕ} → t ≤ c → Tried list cols n t 0 after more → Offered size cols n c (t + 1) after more
-  offered-next h R = record {
+  pub offered-next : {after : List ℕ} {more r′ : ℕ} → t ≤ c → Tried list cols n t 0 after more r′ → Offered size cols n c (t + 1) after more (r + r′)
+  offered-next h R = rw (add-one t) (record {
     columns = O .columns;
     places = O .places;
     light = O .light;
@@ -316,14 +351,43 @@ module _ {size : ℕ} {cols : List ℕ} {n c t : ℕ} {list : List ℕ} {left : 
     upto = omega arith;
     long = tried-long R ∙ O .long;
     filled = R .filled ∙ ap (fills (encode cols) list) (map-zero (words n t)) ∙ ap (λ (l : List ℕ). fills (encode cols) l (words n t)) (O .filled)
-        ∙ sym (fills-append (encode cols) (blanks size) (order n t) (words n t))
-        ∙ ap (λ (k : ℕ). fills (encode cols) (blanks size) (order n k)) (sym (add-one t));
+        ∙ sym (fills-append (encode cols) (blanks size) (order n t) (words n t));
     counted = R .left;
-  }
+    number = ap₂ _+_ (O .number) (R .count ∙ ap (tried (encode cols) list) (map-zero (words n t))
+        ∙ ap (λ (l : List ℕ). tried (encode cols) l (words n t)) (O .filled))
+        ∙ sym (tried-append (encode cols) (blanks size) (order n t) (words n t));
+  })
     where
       map-zero : (l : List ℕ) → map (λ w. 0 + w) l ≡ l
       map-zero [] = refl
       map-zero (x ∷ l) = ap₂ _∷_ (zero-add x) (map-zero l)
 
-  pub offered-end : c < t → list ≡ fills (encode cols) (blanks size) (order n (suc c))
-  offered-end h = let e : t ≡ suc c = omega (arith, O .upto) in rw e at (O .filled)
+  -- how many were tried fits 32 bits: the order has fewer words than there are numbers of 32 places
+  pub offered-small : r < 2 ^ 32
+  offered-small = go (decLe t n)
+    where
+      most : r ≤ length (order n t)
+      most = rw (O .number) (tried-le (encode cols) (order n t) (blanks size))
+
+      go : Dec (t ≤ n) → r < 2 ^ 32
+      go (yes l) = omega (arith, most, order-fewer n t l, pow-mono {i = n} {j = 32} (O .places))
+      go (no k) = omega (arith, most, order-count n t, pow-lt {i = n} {j = 32} (omega (arith, O .upto, O .light)))
+
+  -- heavier words change nothing where no entry is blank
+  pub offered-end : (c < t) ⊎ (left ≡ 0)
+      → (list ≡ fills (encode cols) (blanks size) (order n (suc c))) × (r ≡ tried (encode cols) (blanks size) (order n (suc c)))
+  offered-end (inl h) = let e : t ≡ suc c = omega (arith, O .upto) in (rw e at (O .filled), rw e at (O .number))
+  offered-end (inr z) = let e : suc c - t + t ≡ suc c = omega (arith, O .upto) in rw e at (heavier (suc c - t))
+    where
+      heavier : (d : ℕ) → (list ≡ fills (encode cols) (blanks size) (order n (d + t))) × (r ≡ tried (encode cols) (blanks size) (order n (d + t)))
+      heavier zero = rw (zero-add t) (O .filled, O .number)
+      heavier (suc d) =
+          let (f, k) = heavier d in
+          let more = words n (d + t) in
+          rw (suc-add d t) (
+            f ∙ sym (fills-append (encode cols) (blanks size) (order n (d + t)) more ∙ ap (λ (l : List ℕ). fills (encode cols) l more) (sym f)
+                ∙ fills-done (encode cols) more list (sym (O .counted) ∙ z) ∙ f),
+            sym (tried-append (encode cols) (blanks size) (order n (d + t)) more
+                ∙ ap₂ _+_ (sym k) (ap (λ (l : List ℕ). tried (encode cols) l more) (sym f) ∙ tried-done (encode cols) more list (sym (O .counted) ∙ z))
+                ∙ add-zero r),
+          )

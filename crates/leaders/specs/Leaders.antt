@@ -1,4 +1,5 @@
--- 01, part 4: the coset leaders of all syndromes in a lent list, cause 9, and what the call for them answers.
+-- 01, part 4: the coset leaders of all syndromes in a lent list, cause 9, and what the call for them answers; 02, No. 4: the number of
+-- words tried.
 use mathlib.Core.Path.{_≡_}
 use mathlib.Core.List.{List}
 use Prim.Native.Nat.{ℕ, _-_, _^_, _≤_, _<_}
@@ -7,6 +8,7 @@ use lib.ListN.{length, getD}
 use Rattle.coding.specs.Lists.{zeros, tabulate}
 use Rattle.coding.specs.Word.{weight}
 use Rattle.coding.specs.Leader.{IsLeader, leaderOf}
+use Rattle.coding.specs.Tries.{LastLeader}
 use Rattle.words.specs.Limits.{maxChecks}
 use Rattle.words.specs.Refusal.{unless, andThen, onDone}
 use Rattle.words.specs.declared.answer.Refusal.{Refusal}
@@ -31,7 +33,8 @@ leadersList n k rows = tabulate (leaderOf n rows) (2 ^ (n - k))
 
 -- on success the parity-check rows are answered, on a refusal 0 at each entry; every syndrome of the matrix has a leader, the lightest
 -- word of the coset, of several the smallest, no heavier than n - k, and the list holds it there; every later slot, and on a refusal
--- every slot, is as it was
+-- every slot, is as it was. The number of words tried is the place of the leader that comes last, by weight and then by number, and 0 on
+-- a refusal
 pub record LeadersOf (n k : ℕ) (rows before : List ℕ) (r : Leaders) (after : List ℕ) : Type 0 where
   pub answer : r .answer ≡ leadersAnswer n k rows (length before)
   pub checks : r .answer ≡ Done → ParityChecksOf n k rows (record { answer = r .answer; rows = r .checks })
@@ -39,3 +42,5 @@ pub record LeadersOf (n k : ℕ) (rows before : List ℕ) (r : Leaders) (after :
   pub list : after ≡ onDone (r .answer) (leadersList n k rows) before
   pub leader : r .answer ≡ Done → (s : ℕ) → s < 2 ^ (n - k) → IsLeader n rows s (getD after s 0)
   pub light : r .answer ≡ Done → (s : ℕ) → s < 2 ^ (n - k) → weight (getD after s 0) ≤ n - k
+  pub tries : r .answer ≡ Done → (last : ℕ) × LastLeader n rows (n - k) last (r .tried)
+  pub no-tries : (c : Refusal) → r .answer ≡ Refused c → r .tried ≡ 0

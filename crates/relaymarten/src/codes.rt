@@ -3,6 +3,7 @@ use crate::told::tell;
 use decoder::decode;
 use encoder::encode;
 use encoder::message;
+use leaders::leaders_of;
 use outcomes::Reading;
 use weights::describe;
 use words::limits::MAX_CHECKS;
@@ -14,6 +15,7 @@ ghost use Rattle.words.specs.Accepted.{matrixAnswer};
 ghost use Rattle.encoder.specs.Encoded.{encodeAnswer, Encoded};
 ghost use Rattle.encoder.specs.MessagesRead.{messageAnswer, MessagesRead};
 ghost use Rattle.weights.specs.Description.{DescriptionOf};
+ghost use Rattle.leaders.specs.Leaders.{leadersAnswer, LeadersOf};
 ghost use Rattle.decoder.specs.Causes.{decodeAnswer};
 ghost use Rattle.decoder.specs.Decoded.{Decoded};
 ghost use Rattle.relaymarten.specs.Reading.{readingOf};
@@ -55,6 +57,35 @@ pub extern "C" fn relay_describe(
     *dmin = d.dmin;
     *lightest = d.lightest;
     let a = d.answer;
+    tell(a, value)
+}
+
+// Writes the leaders of all syndromes, the check rows that give a word's syndrome, and how many words were tried.
+#[no_mangle]
+pub extern "C" fn relay_leaders(
+    n: u32,
+    k: u32,
+    rows: &[u32],
+    list: &mut [u32],
+    checks: &mut [u32; MAX_CHECKS],
+    tried: &mut u32,
+    value: &mut usize,
+) -> u32
+    ensures { λ r. ⌜ Told
+        (λ a. LeadersOf n k (now (rows .entry)) (now (list .entry)) (record {
+          answer = a;
+          checks = now (checks .exit);
+          tried = now (tried .exit);
+        }) (now (list .exit)))
+        (leadersAnswer n k (now (rows .entry)) (length (now (list .entry))))
+        r
+        (now (value .exit)) ⌝ }
+{
+    let l = leaders_of(n, k, rows, list);
+    let first = l.checks;
+    *checks = first;
+    *tried = l.tried;
+    let a = l.answer;
     tell(a, value)
 }
 

@@ -1,4 +1,4 @@
-// Test vectors of the crates linear, weights, decoder, golay and hsiao: each record of standard input is one call, and its line says
+// Test vectors of the crates linear, weights, leaders, decoder, golay and hsiao: each record of standard input is one call, and its line says
 // how the call ended and what every lent list holds afterwards. The stored input and output, which reference/vectors.py makes from
 // documents 01 and 02 alone, decide.
 mod batch_calls; // operations on a matrix and a batch of words

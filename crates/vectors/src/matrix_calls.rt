@@ -1,7 +1,11 @@
-// Operations 10 to 15, on a matrix and a word x.
+// Operations 10 to 16, on a matrix and a word x.
 use crate::print;
+use crate::print::UNUSED_ENTRY;
 use crate::print::answer;
 use crate::print::item;
+use crate::records;
+use crate::records::ENTRIES;
+use leaders::leaders_of;
 use linear::accept;
 use linear::reduced_rows;
 use parity::parity_checks;
@@ -54,6 +58,20 @@ fn described(n: u32, k: u32, rows: &[u32]) {
     print::weights(&counts);
 }
 
+// The number of words tried, the check rows and the list, whose number of slots follows the matrix in the record.
+fn leading(n: u32, k: u32, rows: &[u32]) {
+    let mut work = [UNUSED_ENTRY; ENTRIES];
+    let size = records::slots(&work);
+    let lent = &mut work[..size];
+    let l = leaders_of(n, k, rows, lent);
+    let a = l.answer;
+    let checks = l.checks;
+    answer(a);
+    item(l.tried);
+    print::checks(&checks);
+    print::list(lent, UNUSED_ENTRY);
+}
+
 pub(crate) fn call(operation: u8, n: u32, k: u32, x: u32, rows: &[u32]) {
     match operation {
         10 => answer(accept(n, k, rows)),
@@ -61,6 +79,7 @@ pub(crate) fn call(operation: u8, n: u32, k: u32, x: u32, rows: &[u32]) {
         12 => checked(n, k, rows, x),
         13 => item(row_sum(rows, x)),
         14 => weighed(n, k, rows),
+        16 => leading(n, k, rows),
         _ => described(n, k, rows),
     }
 }

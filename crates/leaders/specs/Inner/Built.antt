@@ -8,7 +8,7 @@ use Rattle.coding.specs.Word.{weight}
 use Rattle.coding.specs.Matrix.{encode}
 use Rattle.coding.specs.Check.{syndrome}
 use Rattle.coding.specs.Order.{words, fills}
-use Rattle.coding.specs.Inner.Blanks.{blankCount}
+use Rattle.coding.specs.Tries.{blankCount, tried}
 use Rattle.words.specs.Limits.{width}
 
 -- the syndromes of the words with a single one
@@ -16,7 +16,7 @@ unfoldable pub columnsOf : List ℕ → List ℕ
 columnsOf checks = tabulate (λ p. syndrome checks (2 ^ p)) width
 
 -- the words prefix + w of m places and weight t more are to be tried: the prefix has its ones at place m or beyond and its syndrome is s,
--- every syndrome has an entry, and `blank` entries are blank
+-- every syndrome has an entry, and `blank` entries are blank, one at least
 pub record Trying (list cols : List ℕ) (m t prefix s blank : ℕ) : Type 0 where
   pub columns : length cols ≡ width
   pub places : m ≤ width
@@ -27,8 +27,15 @@ pub record Trying (list cols : List ℕ) (m t prefix s blank : ℕ) : Type 0 whe
   pub at : s ≡ encode cols prefix
   pub entries : (w : ℕ) → encode cols w < length list
   pub left : blank ≡ blankCount list
+  pub more : 1 ≤ blank
 
--- they have been tried
-pub record Tried (before cols : List ℕ) (m t prefix : ℕ) (after : List ℕ) (blank : ℕ) : Type 0 where
+-- they have been tried until no entry was blank: the list is as if all had been, and r is how many were
+pub record Tried (before cols : List ℕ) (m t prefix : ℕ) (after : List ℕ) (blank r : ℕ) : Type 0 where
   pub filled : after ≡ fills (encode cols) before (map (λ w. prefix + w) (words m t))
   pub left : blank ≡ blankCount after
+  pub count : r ≡ tried (encode cols) before (map (λ w. prefix + w) (words m t))
+
+-- of the words with one place more the one at place `last` filled the last blank entry; where that is m, entries are still blank
+pub record TriedUnits (before cols : List ℕ) (m prefix : ℕ) (after : List ℕ) (blank last : ℕ) : Type 0 where
+  pub ended : last < m → Tried before cols m 1 prefix after blank (last + 1) × (blank ≡ 0)
+  pub left : m ≤ last → Tried before cols m 1 prefix after blank m × (1 ≤ blank)

@@ -1,21 +1,19 @@
 -- `decoder::batch::decode_by`: causes 1 to 8, the leaders and with them cause 9, then the words. Assumes nothing.
 use mathlib.Core.Path.{_≡_, refl, sym, ap, _∙_}
 use mathlib.Core.List.{List, _++_}
-use mathlib.Core.Bool.{Bool, true, false, cond}
 use Prim.Native.Nat.{ℕ, _-_, _*_, _%_, _^_}
 use native.Mathlib.Omega.{arith}
-use lib.ListN.{drop}
-use borrow.Author.Tests.{not-true, not-false}
+use lib.ListN.{length, drop}
 use borrow.Author.Needs.{needs}
 use Rattle.coding.specs.Lists.{padded}
 use Rattle.coding.specs.Check.{checks}
 use Rattle.coding.proofs.MachineLaws.{shl-one}
 use Rattle.words.specs.Limits.{maxChecks}
 use Rattle.words.specs.Accepted.{Accepted}
-use Rattle.words.specs.declared.answer.Refusal.the-variants.{ShortWork}
-use Rattle.words.specs.declared.answer.Answer.the-variants.{Done, Refused}
-use Rattle.leaders.specs.Leaders.{leadersList}
-use Rattle.leaders.proofs.LeaderPromiseLaws.{work-told, list-kept}
+use Rattle.words.specs.declared.answer.Answer.{Answer}
+use Rattle.words.specs.declared.answer.Answer.the-variants.{Done}
+use Rattle.leaders.specs.Leaders.{workAnswer, leadersList}
+use Rattle.leaders.proofs.LeaderPromiseLaws.{work-short, work-done, list-kept, leaders-stand}
 use Rattle.decoder.specs.Decoded.{Batch, Lent}
 use Rattle.decoder.proofs.CauseLaws.{no-dmin, accepted-past, at-eight, at-work}
 use Rattle.decoder.proofs.DecodePromiseLaws.{answerTo, decode-refused, words-fit, lent-long, work-long, syndromes-fit, decode-ends}
@@ -48,14 +46,15 @@ abbrev begun : tie.After-slice-known4 → tie.Start
 begun c = start (passed c .before .before)
 
 -- cause 9 decides
-ends : (c : tie.After-slice-known4) (b : Bool) → c .before .before .fill-leaders .result ≡ b
-    → answerTo (batch (begun c)) (lent (begun c)) ≡ cond b Done (Refused ShortWork)
-ends c b e =
+ends : (c : tie.After-slice-known4) (r : Answer)
+    → let a = begun c .args in
+    workAnswer (length (a .work .now)) (2 ^ (a .n - a .k)) ≡ r → answerTo (batch (begun c)) (lent (begun c)) ≡ r
+ends c r e =
     let t = passed c in
     let a = begun c .args in
     sym (at-work (a .n) (a .k) (a .rows .now) (a .reading) (a .words .now) _ _ _
     (sym (t .before .before .known-past .ensures .answer) ∙ t .enum-told .given .1))
-    ∙ work-told (a .n) (a .k) (a .rows .now) (accepted t) (c .before .before .fill-leaders .ensures) b e
+    ∙ e
 
 returns : tie.Need-returns
 returns c =
@@ -75,17 +74,22 @@ returns-2 c =
     let w = c .before .before in
     let s = begun w in
     let u = c .unmeasured2 .ensures in
-    let no = not-true _ (c .before .if1 .taken) in (
-      decode-refused (batch s) (lent s) _ _ (u .0) (u .0 ∙ sym (ends w false no)) _
+    let a = s .args in
+    let f = w .before .before .fill-leaders .ensures in
+    let no = c .before .if1 .taken in (
+      decode-refused (batch s) (lent s) _ _ (u .0) (u .0 ∙ sym (ends w _ (work-short (a .n) (a .k) (a .rows .now) (accepted (passed w)) f no))) _
           (ap (λ (l : List ℕ). record { codewords = s .args .out .now; counts = s .args .counts .now; work = l })
-          (list-kept (w .before .before .fill-leaders .ensures) no)),
+          (list-kept f no)),
       λ _. u .1 ∙ no-dmin _ _ _ (u .0),
     )
 
 -- ---- and cause 9
 
 done : (c : tie.Else1) → answerTo (batch (begun (c .before))) (lent (begun (c .before))) ≡ Done
-done c = ends (c .before) true (not-false _ (c .if1 .left))
+done c =
+    let w = c .before in
+    let a = begun w .args in
+    ends w _ (work-done (a .n) (a .k) (a .rows .now) (accepted (passed w)) (w .before .before .fill-leaders .ensures) (c .if1 .left))
 
 size-is : (c : tie.Else1)
     → let a = begun (c .before) .args in
@@ -105,8 +109,7 @@ work-is : (c : tie.Else1)
 work-is c =
     let t = passed (c .before) in
     let a = begun (c .before) .args in
-    c .before .before .before .fill-leaders .ensures .of-matrix (a .k) (a .rows .now) (accepted t) refl
-    (rows-are c) (not-false _ (c .if1 .left))
+    leaders-stand (a .n) (a .k) (a .rows .now) (accepted t) (c .before .before .before .fill-leaders .ensures) (c .if1 .left) (rows-are c) .0
 
 abbrev ready : tie.After-decode-words-arg3 → tie.Else1
 ready c = c .before .before .before .before

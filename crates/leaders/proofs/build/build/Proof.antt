@@ -7,8 +7,9 @@ use lib.Pow.{pow-pos, pow-lt}
 use borrow.Author.Needs.{needs}
 use Rattle.coding.specs.Matrix.{encode}
 use Rattle.coding.specs.Order.{order, fills, blanks}
+use Rattle.coding.specs.Tries.{tried}
 use Rattle.leaders.proofs.TryLaws.{columns-long}
-use Rattle.leaders.proofs.BuiltLaws.{entries-below, filled-columns}
+use Rattle.leaders.proofs.BuiltLaws.{entries-below, filled-columns, tried-columns}
 use Rattle.leaders.proofs.build.build.Statement.{statement}
 use Rattle.leaders.proofs.build.build.Tie as tie
 
@@ -30,9 +31,13 @@ returns c =
     let f = c .before .before in
     let k = f .before .before .before in
     let a = start k .args in
-    f .fill-list .ensures
-    ∙ ap₂ (λ (h : List ℕ) (m : ℕ). fills (encode h) (blanks m) (order (a .n) (suc (a .c)))) (k .columns .ensures) (start k .pre .2)
-    ∙ filled-columns (take (a .c) (a .checks .now)) (a .n) (a .c) (start k .pre .0)
+    let hs = take (a .c) (a .checks .now) in
+    let words = order (a .n) (suc (a .c)) in (
+      f .fill-list .ensures .0 ∙ ap₂ (λ (h : List ℕ) (m : ℕ). fills (encode h) (blanks m) words) (k .columns .ensures) (start k .pre .2)
+          ∙ filled-columns hs (a .n) (a .c) (start k .pre .0),
+      f .fill-list .ensures .1 ∙ ap₂ (λ (h : List ℕ) (m : ℕ). tried (encode h) (blanks m) words) (k .columns .ensures) (start k .pre .2)
+          ∙ tried-columns hs (a .n) (a .c) (start k .pre .0),
+    )
 
 pub build-spec : {M : Type 1} → statement M
 build-spec = tie.close (tie.spec (λ c κs. search needs) fill-list-requires (λ c. search needs) returns)

@@ -1,18 +1,20 @@
--- `leaders::build::fill_list`: the words of weight below t have been offered. Assumes nothing.
+-- `leaders::build::fill_list`: the words of weight below t have been tried. Assumes nothing.
 use mathlib.Core.Path.{_≡_, _∙_}
+use mathlib.Core.Logic.{inl, inr, ⊎-elim}
 use Prim.Native.Nat.{_-_, _+_}
 use lib.ListN.{length, set, length-set}
-use Rattle.leaders.proofs.TryLaws.{Offered, zero-long, offered-start, offered-trying, offered-next, offered-end}
+use Rattle.leaders.proofs.TryLaws.{Offered, tried-small, zero-long, offered-start, offered-trying, offered-next, offered-small, offered-end}
 use borrow.Author.Needs.{needs}
+use borrow.Author.Tests.{ltb-true, ltb-false}
 use native.Mathlib.Omega.{arith}
 use Rattle.leaders.proofs.build.fill_list.Statement.{statement}
 use Rattle.leaders.proofs.build.fill_list.Tie as tie
 
 abbrev Inv-loop : tie.InvT-loop
-Inv-loop list₀ cols n c left₀ t₀ list left t = Offered (length list₀) cols n c t list left
+Inv-loop list₀ cols n c blank₀ tried₀ t₀ list blank tried t = Offered (length list₀) cols n c t list blank tried
 
 abbrev μ-loop : tie.MeasureT-loop
-μ-loop list₀ cols n c left₀ t₀ list left t = c + 1 - t
+μ-loop list₀ cols n c blank₀ tried₀ t₀ list blank tried t = c + 1 - t
 
 abbrev start : tie.After-slice-known2 Inv-loop μ-loop → tie.Start Inv-loop μ-loop
 start K = K .before .before .before .before .before
@@ -28,7 +30,18 @@ loop-holds K =
 
 -- the turn of the loop that the call stands in
 abbrev turn : tie.After-fill-words Inv-loop μ-loop → tie.In-loop Inv-loop μ-loop
-turn c = c .before .before
+turn c = c .before .before .before .before
+
+fill-words-requires : tie.Need-fill-words-requires Inv-loop μ-loop
+fill-words-requires c κs =
+    let t = c .before .before in
+    offered-trying (t .before .before .loop .inv) (t .before .loop-test .taken) (ltb-true 0 _ (t .if1 .taken))
+
+add-tried : tie.Need-add-tried Inv-loop μ-loop
+add-tried c =
+    let f = c .before .before in
+    let O = turn f .before .loop .inv in
+    record { fits = omega (arith, offered-small O, tried-small (f .fill-words .ensures) (O .places)) }
 
 loop-again : tie.Need-loop-again Inv-loop μ-loop
 loop-again c =
@@ -36,13 +49,15 @@ loop-again c =
     offered-next (turn f .before .loop .inv) (turn f .loop-test .taken) (f .fill-words .ensures)
 
 returns : tie.Need-returns Inv-loop μ-loop
-returns c = rw (long (c .before .before)) at (offered-end (c .before .loop .inv) (c .loop-test .left))
+returns c =
+    let l = c .before .loop in
+    rw (long (c .before .before)) at
+    (offered-end (l .inv) (⊎-elim (λ w. inr (omega (arith, ltb-false 0 (l .blank) (w .1 .left)))) (λ w. inl (w .left)) (c .loop-test .came)))
 
 pub fill-list-spec : {M : Type 1} → statement M
 fill-list-spec =
     tie.close
     (tie.spec Inv-loop μ-loop (λ c κs. search needs)
     (λ K. omega (arith, long K, length-set (K .before .before .clear .last .0) 0 0, start K .pre)) (λ K. omega (arith, long K, start K .pre))
-    (λ K. record { fits = omega (arith, long K, start K .pre) }) loop-holds
-    (λ c κs. offered-trying (c .before .before .loop .inv) (c .before .loop-test .taken)) (λ c. search needs) (λ c. search needs) loop-again
-    (λ c. c .before .loop .inv .long ∙ long (c .before .before)) returns)
+    (λ K. record { fits = omega (arith, long K, start K .pre) }) loop-holds fill-words-requires add-tried (λ c. search needs) (λ c. search needs)
+    loop-again (λ c. record { fits = offered-small (c .before .loop .inv) }) (λ c. c .before .loop .inv .long ∙ long (c .before .before)) returns)

@@ -51,7 +51,7 @@ returns-4 c =
     let b = c .before .before in
     let e = b .before .before in
     let a = start (e .before) .args in
-    rw (size-is (e .before)) (filled-by (a .checks .now) (a .n) (a .c) (a .list .now) (fits e) _ (b .build .ensures))
+    rw (size-is (e .before)) (filled-by (a .checks .now) (a .n) (a .c) (a .list .now) (fits e) _ _ (b .build .ensures .0) (b .build .ensures .1))
 
 pub fill-leaders-spec : {M : Type 1} → statement M
 fill-leaders-spec =

@@ -2,12 +2,11 @@
 use mathlib.Core.Path.{refl, sym, _∙_}
 use native.Mathlib.Omega.{arith}
 use lib.ListN.{length}
-use borrow.Author.Tests.{not-true, not-false}
 use borrow.Author.Needs.{needs}
 use Rattle.words.specs.Accepted.{Accepted}
 use Rattle.words.proofs.AcceptedLaws.{accepted-in}
 use Rattle.parity.proofs.CodeOfLaws.{checks-of, checks-done}
-use Rattle.leaders.proofs.LeaderPromiseLaws.{matrix-refuses, work-refuses, work-told, list-kept, leaders-refused, leaders-written}
+use Rattle.leaders.proofs.LeaderPromiseLaws.{matrix-refuses, work-refuses, work-short, work-done, list-kept, leaders-stand, leaders-refused, leaders-written}
 use Rattle.leaders.proofs.leaders.leaders_of.Statement.{statement}
 use Rattle.leaders.proofs.leaders.leaders_of.Tie as tie
 
@@ -34,7 +33,7 @@ returns c =
     let p = c .before .before .before in
     let a = start p .args in
     let e = c .before .enum-told2 .given .1 in
-    leaders-refused (a .n) (a .k) (a .rows .now) (a .list .now) _ refl _ _ (c .refused .ensures .0 ∙ e) (c .refused .ensures .1)
+    leaders-refused (a .n) (a .k) (a .rows .now) (a .list .now) _ refl _ _ (c .refused .ensures .0 ∙ e) (c .refused .ensures .1, c .refused .ensures .2)
     (matrix-refuses (a .n) (a .k) (a .rows .now) (length (a .list .now)) _ (sym (p .parity-checks .ensures .answer) ∙ e))
 
 returns-2 : tie.Need-returns-2
@@ -42,9 +41,9 @@ returns-2 c =
     let t = passed (c .before .before) in
     let a = start (t .before .before) .args in
     let f = filled (c .before .before) .fill-leaders in
-    let d = not-true _ (c .before .if1 .taken) in
-    leaders-refused (a .n) (a .k) (a .rows .now) (a .list .now) _ (list-kept (f .ensures) d) _ _ (c .refused2 .ensures .0) (c .refused2 .ensures .1)
-    (work-refuses (a .n) (a .k) (a .rows .now) (length (a .list .now)) (accepted t) (work-told (a .n) (a .k) (a .rows .now) (accepted t) (f .ensures) _ d))
+    let d = c .before .if1 .taken in
+    leaders-refused (a .n) (a .k) (a .rows .now) (a .list .now) _ (list-kept (f .ensures) d) _ _ (c .refused2 .ensures .0) (c .refused2 .ensures .1, c .refused2 .ensures .2)
+    (work-refuses (a .n) (a .k) (a .rows .now) (length (a .list .now)) (accepted t) (work-short (a .n) (a .k) (a .rows .now) (accepted t) (f .ensures) d))
 
 returns-3 : tie.Need-returns-3
 returns-3 c =
@@ -53,10 +52,10 @@ returns-3 c =
     let a = start p .args in
     let A = accepted t in
     let f = filled (c .before) .fill-leaders in
-    let d = not-false _ (c .if1 .left) in
-    leaders-written (a .n) (a .k) (a .rows .now) A (a .list .now) _ refl (work-told (a .n) (a .k) (a .rows .now) A (f .ensures) _ d)
+    let d = c .if1 .left in
+    leaders-written (a .n) (a .k) (a .rows .now) A (a .list .now) _ refl (work-done (a .n) (a .k) (a .rows .now) A (f .ensures) d)
     (checks-done (p .parity-checks .ensures) (t .enum-told .given .1)) _
-    (f .ensures .of-matrix (a .k) (a .rows .now) A refl (checks-of (p .parity-checks .ensures) (t .enum-told .given .1)) d)
+    (leaders-stand (a .n) (a .k) (a .rows .now) A (f .ensures) d (checks-of (p .parity-checks .ensures) (t .enum-told .given .1)))
 
 pub leaders-of-spec : {M : Type 1} → statement M
 leaders-of-spec =
