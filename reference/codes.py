@@ -4,6 +4,7 @@ A word is the number whose bit i is place i. A cause is a pair of its number and
 """
 from functools import lru_cache
 from itertools import combinations
+from math import comb
 
 WIDTH = 32
 
@@ -146,6 +147,32 @@ def leader(rows, w):
     return min((w ^ c for c in codewords(rows)), key=order)
 
 
+# ---- 02, No. 4
+def place(n, w):
+    """Of a word among those of n places by weight, then by number; the zero word's is 1."""
+    alike = (sum(1 << p for p in places) for places in combinations(range(n), weight(w)))
+    return 1 + sum(comb(n, t) for t in range(weight(w))) + sum(e < w for e in alike)
+
+
+def tried_until_met(n, rows):
+    """A second opinion: the words in this order, until every syndrome has been met."""
+    checks, met, count = check_rows(n, rows), set(), 0
+    for t in range(n + 1):
+        for w in sorted(sum(1 << p for p in places) for places in combinations(range(n), t)):
+            met.add(syndrome(checks, w))
+            count += 1
+            if len(met) == 1 << len(checks):
+                return count
+
+
+@lru_cache(maxsize=None)
+def tried(n, rows):
+    """How many words the build of the leaders tries: the place of the leader that comes last."""
+    last = max(leaders(n, rows), key=order)
+    assert place(n, last) == tried_until_met(n, rows)
+    return place(n, last)
+
+
 # ---- the causes
 def in_range(n, k):
     return 2 <= n <= 28 and 1 <= k <= 16 and 1 <= n - k <= 12
@@ -168,6 +195,10 @@ def radius_cause(rows, radius):
     return (5, 0) if radius is not None and 2 * radius + 1 > dmin(rows) else None
 
 
+def work_cause(n, k, slots):
+    return (9, 0) if slots < 2 ** (n - k) else None
+
+
 def list_cause(words, places, slots):
     if len(words) > 512:
         return 6, 0
@@ -178,6 +209,13 @@ def list_cause(words, places, slots):
 
 
 # ---- the operations on lists: the cause, or None and the lent lists are written
+def leaders_of(n, k, rows, out):
+    cause = matrix_cause(n, k, rows) or work_cause(n, k, len(out))
+    if cause is None:
+        out[:2 ** (n - k)] = leaders(n, rows)
+    return cause
+
+
 def encode(n, k, rows, words, out):
     cause = matrix_cause(n, k, rows) or list_cause(words, k, len(out))
     if cause is None:
@@ -201,7 +239,7 @@ def decode(n, k, rows, radius, words, out, counts, work):
     """A radius of None is the nearest reading."""
     cause = (matrix_cause(n, k, rows) or radius_cause(rows, radius)
              or list_cause(words, n, min(len(out), len(counts)))
-             or ((9, 0) if len(work) < 2 ** (n - k) else None))
+             or work_cause(n, k, len(work)))
     if cause:
         return cause
     work[:2 ** (n - k)] = leaders(n, rows)

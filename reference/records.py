@@ -1,5 +1,6 @@
 """The records of crates/vectors and what the program prints for each, by the definitions of codes.py."""
-from codes import check_rows, codewords, decode, dmin, encode, lightest, matrix_cause, message, reduced, row_sum, syndrome, weight_counts
+from codes import (check_rows, codewords, decode, dmin, encode, leaders_of, lightest, matrix_cause, message, reduced, row_sum, syndrome,
+                   tried, weight_counts)
 
 MARKS = 777, 77, 7777             # what each slot holds that is lent: of a list of words, of counts, of a working list
 NEAREST = None                    # a reading is that or a radius
@@ -24,7 +25,7 @@ def title(text):
 
 
 OPERATIONS = {'sum': 1, 'weight': 2, 'distance': 3, 'parity': 4, 'place': 5, 'selected': 6, 'fits': 7, 'in range': 8,
-              'accept': 10, 'reduced': 11, 'checks': 12, 'row sum': 13, 'weights': 14, 'describe': 15,
+              'accept': 10, 'reduced': 11, 'checks': 12, 'row sum': 13, 'weights': 14, 'describe': 15, 'leaders': 16,
               'encode': 20, 'message': 21, 'nearest': 22, 'within': 23, 'again': 24,
               'Golay encode': 30, 'Golay decode': 31, 'Golay message': 32, 'Golay messages': 33, 'Golay patterns': 34,
               '(72,64) encode': 40, '(72,64) decode': 41, '(72,64) counts': 42, '(72,64) changes': 43,
@@ -121,6 +122,16 @@ def describe(n, k, rows):
     assert c or sum(weight_counts(codewords(rows))) == 2**k
     parts = (part(n, k, rows) for part in (distance_part, rows_part, checks_part, weights_part))
     record('describe', n, k, 0, rows, (), said(c) + ''.join(parts))
+
+
+def leaders_call(n, k, rows, slots):
+    """The number of words tried, the check rows and the lent list; on a refusal zeros, and the list is as it was."""
+    out = [MARKS[2]] * slots
+    c = leaders_of(n, k, rows, out)
+    number = 0 if c else tried(n, rows)
+    checks = padded([] if c else check_rows(n, rows), 12)
+    record('leaders', n, k, 0, rows, (slots,), f'{said(c)} {number}, checks{items(checks)}' + listed(out, MARKS[2]))
+    return number, out
 
 
 # ---- operations on a batch of words
