@@ -44,5 +44,6 @@ pub record LastLeader (n : ℕ) (rows : List ℕ) (c last place : ℕ) : Type 0 
   pub latest : (s : ℕ) → s < 2 ^ c → (leaderOf n rows s ≡ last) ⊎ Before (leaderOf n rows s) last
   pub ordered : IsOrder n (suc c) (order n (suc c))
   pub stands : place ≡ placeIn (order n (suc c)) last
+  pub there : getD (order n (suc c)) (place - 1) 0 ≡ last
   pub enough : (s : ℕ) → s < 2 ^ c → getD (fills (syndromeOf n rows) (blanks (2 ^ c)) (take place (order n (suc c)))) s 0 ≡ leaderOf n rows s
   pub needed : blankCount (fills (syndromeOf n rows) (blanks (2 ^ c)) (take (place - 1) (order n (suc c)))) ≡ 1
