@@ -1,4 +1,4 @@
-/* A (6,3) code: what it is, three messages sent, damaged, decoded and read back; then the two fixed codes and a code sheet.
+/* A (6,3) code: what it is, its coset leaders, three messages sent, damaged, decoded and read back; then the two fixed codes and a code sheet.
  * Built and run by bench/run, which compares what it prints with example.out. */
 #include "relaymarten.h"
 #include <inttypes.h>
@@ -35,6 +35,20 @@ static void describe(void)
     for (int i = 0; i <= 6; i++)
         printf(" %" PRIu32, counts[i]);
     putchar('\n');
+}
+
+static void leaders(void)
+{
+    uint32_t list[8], checks[RELAY_MAX_CHECKS], tried;
+    size_t value;
+    if (relay_leaders(6, 3, rows, 3, list, 8, checks, &tried, &value) != RELAY_DONE)
+        return;
+    printf("leaders");
+    for (int i = 0; i < 8; i++) {
+        putchar(' ');
+        print_word(6, list[i]);
+    }
+    printf(", %" PRIu32 " words tried\n", tried);
 }
 
 static void send(void)
@@ -103,6 +117,7 @@ int main(void)
         return 1;
     }
     describe();
+    leaders();
     send();
     fixed_codes();
     sheet();

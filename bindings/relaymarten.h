@@ -31,7 +31,7 @@ extern "C" {
 
 /* The version of this header. */
 #define RELAY_VERSION_MAJOR 0
-#define RELAY_VERSION_MINOR 6
+#define RELAY_VERSION_MINOR 7
 #define RELAY_VERSION_PATCH 0
 #define RELAY_VERSION (10000 * RELAY_VERSION_MAJOR + 100 * RELAY_VERSION_MINOR + RELAY_VERSION_PATCH)
 
@@ -81,6 +81,18 @@ enum {
 uint32_t relay_describe(uint32_t n, uint32_t k, const uint32_t *rows, size_t rows_len,
                         uint32_t reduced[RELAY_MAX_ROWS], uint32_t checks[RELAY_MAX_CHECKS], uint32_t weight_counts[RELAY_WEIGHTS],
                         uint32_t *dmin, uint32_t *lightest, size_t *value);
+
+/* The coset leaders of a matrix. Causes 1 to 4 and 9, `leaders` being the working list.
+ * Written: entry s of `leaders` becomes the leader of syndrome s, the lightest word that has it, of several the smallest number;
+ * later slots keep their values. `checks` gives the n - k parity-check rows, and 0 after them: bit j of a word's syndrome is the
+ * parity of what the word and row j have in common. *tried becomes the number of words tried: they are tried by rising weight, of
+ * equal weight by rising number, until every syndrome has its leader, so it is the place in this order of the leader that comes
+ * last, the zero word's being 1. On a refusal `leaders` is as it was, and `checks` and *tried become 0.
+ * Time: that of relay_decode with no words.
+ * Stack: about 3 kB. */
+uint32_t relay_leaders(uint32_t n, uint32_t k, const uint32_t *rows, size_t rows_len,
+                       uint32_t *leaders, size_t leaders_len, uint32_t checks[RELAY_MAX_CHECKS],
+                       uint32_t *tried, size_t *value);
 
 /* The codewords of messages of k places. Causes 1 to 4 and 6 to 8.
  * Written: slot i of `out` becomes the codeword of message i; later slots keep their values.

@@ -54,6 +54,12 @@ static void describe(void)
     number = relay_describe(28, 16, rows, 16, reduced, checks, weights, &dmin, &lightest, &value);
 }
 
+static void leaders(void)
+{
+    static uint32_t checks[RELAY_MAX_CHECKS], tried;
+    number = relay_leaders(28, 16, rows, 16, work, RELAY_MAX_LEADERS, checks, &tried, &value);
+}
+
 static void encode(void)
 {
     static uint32_t messages[RELAY_MAX_WORDS];
@@ -122,6 +128,7 @@ static const struct {
 } calls[] = {
     {"relay_version", 1, version},
     {"relay_describe", 5, describe},
+    {"relay_leaders", 3, leaders},
     {"relay_encode", 2, encode},
     {"relay_message", 3, message},
     {"relay_decode", 6, decode},

@@ -126,6 +126,37 @@ static void lightest(void)
     HOLDS(dmin == 3 && weights[3] == 2 && found == 0x0B);
 }
 
+/* How many words are tried, or the cause; every entry past the leaders is kept. */
+static uint32_t tried(uint32_t n, uint32_t k, const uint32_t *matrix, size_t entries, uint32_t last)
+{
+    uint32_t checks[RELAY_MAX_CHECKS], number, found = 99;
+    size_t value = 99, leaders = (size_t)1 << (n - k);
+    memset(checks, 0xA5, sizeof checks);
+    memset(work, 0xA5, sizeof work);
+    number = relay_leaders(n, k, matrix, k, work, entries, checks, &found, &value);
+    HOLDS(value == 0);
+    if (number != RELAY_DONE) {
+        HOLDS(found == 0 && checks[0] == 0 && checks[RELAY_MAX_CHECKS - 1] == 0 && work[0] == 0xA5A5A5A5);
+        return 1000 + number;
+    }
+    HOLDS(work[0] == 0 && work[leaders - 1] != 0xA5A5A5A5 && (leaders == RELAY_MAX_LEADERS || work[leaders] == 0xA5A5A5A5));
+    size_t at = 0;
+    while (at < leaders && work[at] != last)
+        at++;
+    HOLDS(at < leaders);
+    return found;
+}
+
+static void leaders(void)
+{
+    const uint32_t seven[4] = {0x0B, 0x16, 0x27, 0x45}, five[2] = {0x1D, 0x16}, ones = 0x1FFF, first = 1, both = 3;
+    HOLDS(tried(7, 4, seven, 8, 0x40) == 8 && tried(5, 2, five, 8, 0x0C) == 12 && tried(6, 3, rows, 9, 0x09) == 11);
+    HOLDS(tried(2, 1, &both, 2, 0x01) == 2 && tried(2, 1, &first, RELAY_MAX_LEADERS, 0x02) == 3);
+    HOLDS(tried(13, 1, &ones, RELAY_MAX_LEADERS, 0x1F80) == 4096);
+    HOLDS(tried(13, 1, &ones, RELAY_MAX_LEADERS - 1, 0) == 1000 + RELAY_SHORT_WORK);
+    HOLDS(tried(7, 4, seven, 7, 0) == 1000 + RELAY_SHORT_WORK && tried(14, 1, &ones, 9, 0) == 1000 + RELAY_OUT_OF_RANGE);
+}
+
 /* The check bits of data by their width, or the cause, with 0 in every other part. */
 static uint32_t width_check(uint32_t width, uint64_t data)
 {
@@ -199,6 +230,7 @@ int main(void)
     sheets();
     readings();
     lightest();
+    leaders();
     widths();
     sizes();
     return failed;

@@ -12,6 +12,10 @@ extern "C" {
         n: u32, k: u32, rows: *const u32, rows_len: usize, reduced: *mut [u32; MAX_ROWS], checks: *mut [u32; MAX_CHECKS],
         weight_counts: *mut [u32; WEIGHTS], dmin: *mut u32, lightest: *mut u32, value: *mut usize,
     ) -> u32;
+    pub fn relay_leaders(
+        n: u32, k: u32, rows: *const u32, rows_len: usize, leaders: *mut u32, leaders_len: usize, checks: *mut [u32; MAX_CHECKS],
+        tried: *mut u32, value: *mut usize,
+    ) -> u32;
     pub fn relay_encode(
         n: u32, k: u32, rows: *const u32, rows_len: usize, messages: *const u32, messages_len: usize,
         out: *mut u32, out_len: usize, value: *mut usize,

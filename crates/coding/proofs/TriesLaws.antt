@@ -194,7 +194,7 @@ module _ (n : ℕ) (rs : List ℕ) (fits : Inside n rs) (small : length (frees n
           ordered = order-is n (suc c);
           stands = E .number ∙ ap suc (sym (at i (E .below)));
           there = ap (λ (k : ℕ). getD ws k 0) (less i E);
-        enough = λ s h. ap (λ (k : ℕ). getD (fills syn (blanks (2 ^ c)) (take k ws)) s 0) (E .number)
+          enough = λ s h. ap (λ (k : ℕ). getD (fills syn (blanks (2 ^ c)) (take k ws)) s 0) (E .number)
               ∙ ap (λ (l : List ℕ). getD l s 0) (E .enough) ∙ built n rs fits small s h;
           needed = ap (λ (k : ℕ). blankCount (fills syn (blanks (2 ^ c)) (take k ws))) (less i E) ∙ E .needed;
         },

@@ -66,22 +66,22 @@ pub extern "C" fn relay_leaders(
     n: u32,
     k: u32,
     rows: &[u32],
-    list: &mut [u32],
+    leaders: &mut [u32],
     checks: &mut [u32; MAX_CHECKS],
     tried: &mut u32,
     value: &mut usize,
 ) -> u32
     ensures { λ r. ⌜ Told
-        (λ a. LeadersOf n k (now (rows .entry)) (now (list .entry)) (record {
+        (λ a. LeadersOf n k (now (rows .entry)) (now (leaders .entry)) (record {
           answer = a;
           checks = now (checks .exit);
           tried = now (tried .exit);
-        }) (now (list .exit)))
-        (leadersAnswer n k (now (rows .entry)) (length (now (list .entry))))
+        }) (now (leaders .exit)))
+        (leadersAnswer n k (now (rows .entry)) (length (now (leaders .entry))))
         r
         (now (value .exit)) ⌝ }
 {
-    let l = leaders_of(n, k, rows, list);
+    let l = leaders_of(n, k, rows, leaders);
     let first = l.checks;
     *checks = first;
     *tried = l.tried;

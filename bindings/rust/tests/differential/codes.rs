@@ -98,6 +98,63 @@ fn refused_description() {
     }
 }
 
+/// One call for the leaders: the answer, every slot of the list, the check rows and the number of words tried.
+fn leaders_once(r: &mut Random, m: &Matrix) -> Cause {
+    let before = slots(r, 1 << m.n.saturating_sub(m.k).min(12));
+    let (mut ours, mut theirs) = (before.clone(), before);
+    let wanted = plain::leaders(m.n, m.k, &m.rows, &mut theirs).map(|(checks, tried)| (padded(checks), tried));
+    let answer = told(relaymarten::leaders(m.n, m.k, &m.rows, &mut ours).map(|l| {
+        assert_eq!(l.list, &theirs[..1 << (m.n - m.k)], "{m:?}");
+        (l.checks, l.tried)
+    }));
+    assert_eq!(answer, wanted, "{m:?}");
+    assert_eq!(ours, theirs, "{m:?}");
+    cause(&answer)
+}
+
+#[test]
+fn leaders() {
+    let mut r = Random::of("leaders");
+    let mut seen = BTreeSet::new();
+    for _ in 0..4000 {
+        let m = matrix(&mut r, 14);
+        seen.insert(leaders_once(&mut r, &m));
+    }
+    assert_eq!(seen, causes(&[0, 1, 2, 9], &[3, 4]));
+}
+
+/// Longer codes, and rows of the identity at either end, where every word up to the weight n - k is tried or nearly all of them.
+#[test]
+fn leaders_long() {
+    let mut r = Random::of("leaders_long");
+    for _ in 0..40 {
+        let m = matrix(&mut r, 22);
+        leaders_once(&mut r, &m);
+    }
+    for (n, k, first) in [(18, 8, 0), (18, 8, 10), (20, 8, 0), (20, 8, 12)] {
+        leaders_once(&mut r, &Matrix { n, k, rows: (first..first + k).map(|i| 1 << i).collect() });
+    }
+    let rows = (0..16).map(|i| 1 << i | r.word(28) & 0xFFF0000).collect();
+    leaders_once(&mut r, &Matrix { n: 28, k: 16, rows });
+}
+
+/// A refused call for the leaders writes 0 for the check rows and the number, and number and value in any case.
+#[test]
+fn refused_leaders() {
+    let mut r = Random::of("refused_leaders");
+    for _ in 0..500 {
+        let m = matrix(&mut r, 12);
+        let (mut list, mut checks, mut tried, mut value) = (slots(&mut r, 16), [7; MAX_CHECKS], 7, 7);
+        let (before, rows) = (list.clone(), (m.rows.as_ptr(), m.rows.len()));
+        let to = (list.as_mut_ptr(), list.len());
+        let number = unsafe { raw::relay_leaders(m.n, m.k, rows.0, rows.1, to.0, to.1, &mut checks, &mut tried, &mut value) };
+        match plain::leaders(m.n, m.k, &m.rows, &mut before.clone()) {
+            Ok(_) => assert_eq!((number, value), (0, 0)),
+            Err(e) => assert_eq!((number, value, list, checks, tried), (e.0, e.1, before, [0; 12], 0)),
+        }
+    }
+}
+
 /// A success writes 0 as its value, and nearest looks at no radius.
 #[test]
 fn success_has_value_0() {

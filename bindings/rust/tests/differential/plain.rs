@@ -113,6 +113,13 @@ impl Code {
         (0..1 << (self.n - self.k)).map(|s| self.pattern(word(s))).collect()
     }
 
+    /// How many words are tried until every syndrome has its leader: of all words of n places, by weight and then by number, those
+    /// up to the leader that comes last.
+    fn tried(&self) -> u32 {
+        let last = self.leaders().into_iter().max_by_key(|e| (e.count_ones(), *e)).unwrap();
+        (0..1 << self.n).filter(|v: &u32| (v.count_ones(), *v) <= (last.count_ones(), last)).count() as u32
+    }
+
     /// Codeword and count, within the radius or, without one, nearest.
     fn decoded(&self, radius: Option<u32>, w: u32) -> (u32, u8) {
         let e = self.pattern(w);
@@ -135,6 +142,22 @@ fn lists(words: &[u32], places: u32, slots: usize) -> Result<(), Refused> {
         return refused(8, 0);
     }
     Ok(())
+}
+
+/// Cause 9.
+fn room(code: &Code, slots: usize) -> Result<(), Refused> {
+    if slots < 1 << (code.n - code.k) {
+        return refused(9, 0);
+    }
+    Ok(())
+}
+
+/// The check rows, and the number of words tried.
+pub fn leaders(n: u32, k: u32, rows: &[u32], list: &mut [u32]) -> Result<(Vec<u32>, u32), Refused> {
+    let code = accept(n, k, rows)?;
+    room(&code, list.len())?;
+    list.iter_mut().zip(code.leaders()).for_each(|(slot, leader)| *slot = leader);
+    Ok((code.checks(), code.tried()))
 }
 
 pub fn encode(n: u32, k: u32, rows: &[u32], messages: &[u32], out: &mut [u32]) -> Result<(), Refused> {
@@ -174,9 +197,7 @@ pub fn decode(n: u32, k: u32, rows: &[u32], radius: Option<u32>, words: &[u32], 
         }
     }
     lists(words, n, to.out.len().min(to.counts.len()))?;
-    if to.work.len() < 1 << (n - k) {
-        return refused(9, 0);
-    }
+    room(&code, to.work.len())?;
     for (i, &w) in words.iter().enumerate() {
         (to.out[i], to.counts[i]) = code.decoded(radius, w);
     }
