@@ -12,7 +12,7 @@ import sys
 
 BUILDS = ["call", "inline", "popcnt"]
 GOALS = [("(72,64)", "(72,64) decode", 1.25), ("Widths", "word of 16 or 32 data bits", 1.15), ("Golay", "Golay decode", 1.05),
-         ("Sheets of 512 words", "sheet", 1.5)]
+         ("Leaders", "leaders", 1.15), ("Sheets of 512 words", "sheet", 1.5)]
 
 Case = collections.namedtuple("Case", "index section name plain words matters less")
 # library: (instructions, nanoseconds); ratios: by build, of the same

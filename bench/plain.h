@@ -35,6 +35,8 @@ uint32_t block_distance(uint32_t k, const uint32_t *rows);
 
 uint32_t plain_describe(uint32_t n, uint32_t k, const uint32_t *rows, size_t rows_len, uint32_t reduced[16], uint32_t checks[12],
                         uint32_t counts[33], uint32_t *dmin, uint32_t *lightest, size_t *value);
+uint32_t plain_leaders(uint32_t n, uint32_t k, const uint32_t *rows, size_t rows_len, uint32_t *list, size_t list_len,
+                       uint32_t checks[12], uint32_t *tried, size_t *value);
 uint32_t plain_encode(uint32_t n, uint32_t k, const uint32_t *rows, size_t rows_len, const uint32_t *messages, size_t m,
                       uint32_t *out, size_t out_len, size_t *value);
 uint32_t plain_message(uint32_t n, uint32_t k, const uint32_t *rows, size_t rows_len, const uint32_t *words, size_t m,

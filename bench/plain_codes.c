@@ -142,44 +142,54 @@ uint32_t plain_message(uint32_t n, uint32_t k, const uint32_t *rows, size_t rows
 }
 
 typedef struct {
-    uint32_t *list, columns[28], left;
+    uint32_t *list, columns[28], left, tried;
 } Build;
 
-static inline void offer(Build *b, uint32_t w, uint32_t s)
-{
-    if (b->list[s] == UINT32_MAX) {
-        b->list[s] = w;
-        b->left--;
-    }
-}
-
-/* The words of m places and weight t, by rising number. */
+/* The words of m places and weight t, by rising number, until no entry is blank. */
 static void fill(Build *b, int m, int t, uint32_t w, uint32_t s)
 {
     if (!b->left || m < t)
         return;
     if (t == 0) {
-        offer(b, w, s);
+        b->tried++;
+        if (b->list[s] == UINT32_MAX) {
+            b->list[s] = w;
+            b->left--;
+        }
         return;
     }
     fill(b, m - 1, t, w, s);
     fill(b, m - 1, t - 1, w | 1u << (m - 1), s ^ b->columns[m - 1]);
 }
 
-/* The same, with the last two ones in loops. */
+/* The words with one place more, below m. */
+static inline void fill_units(Build *b, int m, uint32_t w, uint32_t s)
+{
+    for (int p = 0; p < m; p++) {
+        uint32_t x = s ^ b->columns[p];
+        if (b->list[x] == UINT32_MAX) {
+            b->list[x] = w | 1u << p;
+            if (!--b->left) {
+                b->tried += (uint32_t)p + 1;
+                return;
+            }
+        }
+    }
+    b->tried += (uint32_t)m;
+}
+
+/* The same as fill, with the last two ones in loops. */
 static void fill_loops(Build *b, int m, int t, uint32_t w, uint32_t s)
 {
     if (!b->left || m < t)
         return;
     if (t == 1) {
-        for (int p = 0; p < m; p++)
-            offer(b, w | 1u << p, s ^ b->columns[p]);
+        fill_units(b, m, w, s);
         return;
     }
     if (t == 2) {
         for (int p = 1; p < m && b->left; p++)
-            for (int q = 0; q < p; q++)
-                offer(b, w | 1u << p | 1u << q, s ^ b->columns[p] ^ b->columns[q]);
+            fill_units(b, p, w | 1u << p, s ^ b->columns[p]);
         return;
     }
     fill_loops(b, m - 1, t, w, s);
@@ -195,16 +205,35 @@ static void column_list(uint32_t n, const uint32_t *checks, unsigned r, uint32_t
             columns[p] |= (checks[j] >> p & 1) << j;
 }
 
-static void leaders(uint32_t n, unsigned r, Build *b)
+static void leaders(uint32_t n, const uint32_t *checks, unsigned r, Build *b)
 {
-    b->left = 1u << r;
+    column_list(n, checks, r, b->columns);
     memset(b->list, 0xFF, sizeof *b->list << r);
-    offer(b, 0, 0);
+    b->list[0] = 0;
+    b->left = (1u << r) - 1;
+    b->tried = 1;
     for (unsigned t = 1; t <= r && b->left; t++)
         if (ways.loops)
             fill_loops(b, (int)n, (int)t, 0, 0);
         else
             fill(b, (int)n, (int)t, 0, 0);
+}
+
+uint32_t plain_leaders(uint32_t n, uint32_t k, const uint32_t *rows, size_t rows_len, uint32_t *list, size_t list_len,
+                       uint32_t checks[12], uint32_t *tried, size_t *value)
+{
+    Pivots p;
+    Build b = {.list = list};
+    uint32_t number = reduce(n, k, rows, rows_len, &p, value);
+    *tried = 0;
+    memset(checks, 0, 12 * sizeof *checks);
+    if (number)
+        return number;
+    if (list_len < (size_t)1 << (n - k))
+        return refuse(value, 9, 0);
+    leaders(n, checks, check_rows(n, &p, checks), &b);
+    *tried = b.tried;
+    return 0;
 }
 
 /* The syndromes of seven places at a time. */
@@ -276,8 +305,7 @@ uint32_t plain_decode(uint32_t n, uint32_t k, const uint32_t *rows, size_t rows_
     if (work_len < (size_t)1 << (n - k))
         return refuse(value, 9, 0);
     unsigned r = check_rows(n, &p, checks);
-    column_list(n, checks, r, b.columns);
-    leaders(n, r, &b);
+    leaders(n, checks, r, &b);
     if (ways.tables)
         decode_by_tables(b.columns, work, words, m, &a);
     else

@@ -6,8 +6,7 @@ use mathlib.Core.List.{List, [], _∷_, _++_, map}
 use mathlib.Core.Option.{Option, none, some}
 use mathlib.Core.Bool.{Bool, true, false, not, cond, _&&_}
 use Prim.Native.Nat.{ℕ, zero, suc, _+_, _-_, _^_, _<_, suc-le-suc}
-use native.Mathlib.Nat.{pow-suc, add-assoc, add-zero}
-use native.Mathlib.Numerals.{add-one}
+use native.Mathlib.Nat.{pow-suc, add-assoc}
 use native.Mathlib.Decide.{ℕ-discrete}
 use native.Mathlib.Omega.{arith}
 use lib.Dec.{eqb}

@@ -5,7 +5,7 @@ use mathlib.Core.Logic.{_≢_, _⊎_, inl, inr}
 use mathlib.Core.List.{List, [], _∷_, _++_}
 use mathlib.Core.Bool.{Bool, true, false, cond}
 use Prim.Native.Nat.{ℕ, zero, suc, _+_, _-_, _^_, _≤_, _<_}
-use native.Mathlib.Nat.{zero-add, suc-add}
+use native.Mathlib.Nat.{zero-add}
 use native.Mathlib.Decide.{ℕ-discrete}
 use native.Mathlib.Omega.{arith}
 use lib.Dec.{eqb}
@@ -13,14 +13,14 @@ use lib.ListN.{length, getD, set, take, length-take, length-replicate, getD-repl
 use lib.Seq.{getD-set-same, getD-set-other, getD-take}
 use lib.Pow.{pow-pos}
 use lib.Count.{ones-ones}
-use borrow.Author.Tests.{eq-eqb, ne-eqb, eqb-true}
+use borrow.Author.Tests.{eq-eqb, ne-eqb}
 use Rattle.coding.specs.Lists.{first}
 use Rattle.coding.specs.Word.{weight}
 use Rattle.coding.specs.Matrix.{Inside}
 use Rattle.coding.specs.Check.{frees}
 use Rattle.coding.specs.Leader.{syndromeOf, noLeader, leaderOf}
 use Rattle.coding.specs.Order.{words, order, fill, fills, blanks}
-use Rattle.coding.specs.Tries.{blankCount, tried, Before, placeIn, LastLeader}
+use Rattle.coding.specs.Tries.{blankCount, tried, Before, LastLeader}
 use Rattle.coding.proofs.SearchLaws.{first-is}
 use Rattle.coding.proofs.CountLaws.{count-none}
 use Rattle.coding.proofs.LeaderLaws.{leader-light, syndromeOf-lt}

@@ -1,7 +1,6 @@
 -- `leaders::build::fill_few`: one or two ones. Assumes nothing.
 use mathlib.Core.Path.{_≡_}
 use native.Mathlib.Omega.{arith}
-use borrow.Author.Needs.{needs}
 use Rattle.leaders.proofs.TryLaws.{tried-long}
 use Rattle.leaders.proofs.build.fill_few.Statement.{statement}
 use Rattle.leaders.proofs.build.fill_few.Tie as tie
