@@ -119,7 +119,7 @@ light-word w h e = omega (arith, ap weight e ∙ ones-ones 32)
 
 module _ {list cols : List ℕ} {m t prefix s blank : ℕ} (T : Trying list cols m t prefix s blank) where
   -- the words that have no place from p on
-  pub trying-low : {p : ℕ} → p ≤ m → Trying list cols p t prefix s blank
+  trying-low : {p : ℕ} → p ≤ m → Trying list cols p t prefix s blank
   trying-low {p} h = record {
     columns = T .columns;
     places = omega (arith, T .places);
@@ -185,17 +185,15 @@ module _ {list cols : List ℕ} {m t prefix s blank : ℕ} (T : Trying list cols
 -- those whose places lie below p have been tried, and an entry is blank
 pub record Rising (list₀ cols : List ℕ) (m t prefix s blank : ℕ) (list : List ℕ) (left r p : ℕ) : Type 0 where
   pub trying : Trying list₀ cols m t prefix s blank
-  pub some : t ≤ p + 1
   pub upto : (p ≤ m) ⊎ (p < t)
   pub so-far : Tried list₀ cols p t prefix list left r
   pub more : 1 ≤ left
 
--- none has fewer places than ones
+-- no word has fewer places than ones
 pub rising-start : {list cols : List ℕ} {m t prefix s blank : ℕ} → Trying list cols m t prefix s blank
     → Rising list cols m t prefix s blank list blank 0 (t - 1)
 rising-start T = record {
   trying = T;
-  some = omega arith;
   upto = inr (omega (arith, T .some));
   so-far = tried-few (T .left) (omega (arith, T .some));
   more = T .more;
@@ -210,7 +208,7 @@ module _ {list₀ cols : List ℕ} {m t prefix s blank : ℕ} {list : List ℕ} 
         tried-both {between = list} {left = left} (omega (arith, P .trying .places)) (omega arith) (P .trying .some) (rw under (P .so-far)) (rw under S)
 
     pub rising-next : 1 ≤ end → Rising list₀ cols m t prefix s blank after end (r + r′) (p + 1)
-    rising-next more = record { trying = P .trying; some = omega (arith, P .some); upto = inl (omega arith); so-far = with-place; more = more }
+    rising-next more = record { trying = P .trying; upto = inl (omega arith); so-far = with-place; more = more }
 
     -- no entry is blank any more, and the others would change nothing
     pub rising-full : end ≡ 0 → Tried list₀ cols m t prefix after end (r + r′)
