@@ -24,7 +24,8 @@ use Rattle.coding.specs.Tries.{blankCount, tried, Before, LastLeader}
 use Rattle.coding.proofs.SearchLaws.{first-is}
 use Rattle.coding.proofs.CountLaws.{count-none}
 use Rattle.coding.proofs.LeaderLaws.{leader-light, syndromeOf-lt}
-use Rattle.coding.proofs.BuildLaws.{All, all-more, order-light, built, fill-blank, fill-held, fills-done, fills-length, fill-length, blank-set, blank-all}
+use Rattle.coding.proofs.BuildLaws.{All, all-more, order-light, built, fill-blank, fill-held, fill-length}
+use Rattle.coding.proofs.BuildLaws.{fills-done, fills-length, blank-set, blank-all}
 use Rattle.coding.proofs.OrderedLaws.{order-is}
 
 -- ---- over any words

@@ -24,7 +24,7 @@ use Rattle.words.specs.Limits.{maxChecks}
 use Rattle.words.specs.Accepted.{Accepted}
 use Rattle.words.proofs.CodeLaws.{frees-are}
 use Rattle.leaders.specs.Inner.Built.{columnsOf}
-use Rattle.leaders.specs.Leaders.{leadersList}
+use Rattle.leaders.specs.Leaders.{leadersList, leadersTried}
 use Rattle.leaders.specs.LeadersBy.{filledBy, triedBy}
 use Rattle.leaders.proofs.TryLaws.{columns-inside, columns-encode}
 
@@ -86,8 +86,10 @@ module _ (n k : ℕ) (rows : List ℕ) (A : Accepted n k rows) where
           (rw checks-are at (built n rows (A .inside) few s (rw checks-are l)))
           ∙ sym (getD-tabulate (leaderOf n rows) (2 ^ (n - k)) s l)
 
-  -- how many words are tried is the place of the leader that comes last
-  pub place-is : (last : ℕ) × LastLeader n rows (n - k) last (triedBy (take (n - k) (padded maxChecks (checks n rows))) n (n - k))
+  pub tries-are : triedBy (take (n - k) (padded maxChecks (checks n rows))) n (n - k) ≡ leadersTried n k rows
   unfolding triedBy
-  place-is =
-      rw (ap (λ (hs : List ℕ). triedBy hs n (n - k)) rows-of) (rw checks-are at (last-leader n rows (A .inside) few))
+  tries-are = ap (λ (hs : List ℕ). triedBy hs n (n - k)) rows-of
+
+  -- that is the place of the leader that comes last
+  pub place-is : (last : ℕ) × LastLeader n rows (n - k) last (leadersTried n k rows)
+  place-is = rw checks-are at (last-leader n rows (A .inside) few)

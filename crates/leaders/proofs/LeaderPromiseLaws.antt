@@ -11,7 +11,6 @@ use borrow.Author.Tests.{le-leb}
 use Rattle.coding.specs.Lists.{zeros, padded}
 use Rattle.coding.specs.Check.{checks}
 use Rattle.coding.specs.Leader.{leaderOf}
-use Rattle.coding.specs.Tries.{LastLeader}
 use Rattle.coding.proofs.ListLaws.{getD-tabulate}
 use Rattle.words.specs.Limits.{maxChecks, width}
 use Rattle.words.specs.Accepted.{matrixAnswer, Accepted}
@@ -22,10 +21,10 @@ use Rattle.words.proofs.AnswerLaws.{refused-done, kept, filled}
 use Rattle.words.proofs.AcceptedLaws.{in-accepted}
 use Rattle.words.proofs.CodeLaws.{leader-at, light}
 use Rattle.parity.specs.ParityChecks.{ParityChecksOf}
-use Rattle.leaders.specs.Leaders.{workAnswer, leadersAnswer, leadersList, LeadersOf}
+use Rattle.leaders.specs.Leaders.{workAnswer, leadersAnswer, leadersList, leadersTried, LeadersOf}
 use Rattle.leaders.specs.LeadersBy.{filledBy, triedBy, leadersFit, LeadersBy}
 use Rattle.leaders.specs.declared.leaders.Leaders.{Leaders}
-use Rattle.leaders.proofs.BuiltLaws.{tried-some, leaders-long, leaders-are, place-is}
+use Rattle.leaders.proofs.BuiltLaws.{tried-some, leaders-long, leaders-are, tries-are, place-is}
 
 -- ---- by check rows
 
@@ -40,7 +39,7 @@ module _ (hs : List ℕ) (n c : ℕ) (before : List ℕ) where
     room = le-leb 1 r (rw g (tried-some (take c hs) n c)) ∙ sym e;
     list = rw e (ap (λ (l : List ℕ). l ++ drop (2 ^ c) before) f);
     of-matrix = λ k rows A d q t.
-        (rw (f, d, q) (ap (λ (l : List ℕ). l ++ drop (2 ^ (n - k)) before) (leaders-are n k rows A)), rw (g, d, q) (place-is n k rows A));
+        (rw (f, d, q) (ap (λ (l : List ℕ). l ++ drop (2 ^ (n - k)) before) (leaders-are n k rows A)), rw (g, d, q) (tries-are n k rows A));
   }
 
 -- 0 tells that there is no room, and the list is as it was
@@ -68,7 +67,7 @@ module _ (n k : ℕ) (rows : List ℕ) (A : Accepted n k rows) where
 
     -- else the leaders stand in the list
     pub leaders-stand : r ≢ 0 → hs ≡ padded maxChecks (checks n rows)
-        → (after ≡ leadersList n k rows ++ drop (2 ^ (n - k)) before) × ((last : ℕ) × LastLeader n rows (n - k) last r)
+        → (after ≡ leadersList n k rows ++ drop (2 ^ (n - k)) before) × (r ≡ leadersTried n k rows)
     leaders-stand ne e = L .of-matrix k rows A refl e (sym (L .room) ∙ le-leb 1 r (omega arith))
 
   -- where the list begins with the leaders, entry s is that of s
@@ -79,7 +78,7 @@ module _ (n k : ℕ) (rows : List ℕ) (A : Accepted n k rows) where
   -- a success writes the leaders
   pub leaders-written : (before : List ℕ) (r : Leaders) → r .answer ≡ Done → workAnswer (length before) (2 ^ (n - k)) ≡ Done
       → ParityChecksOf n k rows (record { answer = Done; rows = r .checks }) → (after : List ℕ)
-      → (after ≡ leadersList n k rows ++ drop (2 ^ (n - k)) before) × ((last : ℕ) × LastLeader n rows (n - k) last (r .tried))
+      → (after ≡ leadersList n k rows ++ drop (2 ^ (n - k)) before) × (r .tried ≡ leadersTried n k rows)
       → LeadersOf n k rows before r after
   leaders-written before r d w c after (e, t) = record {
     answer = d ∙ sym (rw (in-accepted n k rows A, w) refl);
@@ -88,8 +87,8 @@ module _ (n k : ℕ) (rows : List ℕ) (A : Accepted n k rows) where
     list = rw d (filled (leadersList n k rows) before after (2 ^ (n - k)) (leaders-long n k rows A) e);
     leader = λ _ s l. rw (e, leader-slot (drop (2 ^ (n - k)) before) s l) (leader-at n k rows A s l);
     light = λ _ s l. rw (e, leader-slot (drop (2 ^ (n - k)) before) s l) (light n k rows A s l);
-    tries = λ _. t;
-    no-tries = λ _ q. refused-done (sym q ∙ d);
+    tries = rw d t;
+    place = λ _. rw t (place-is n k rows A);
   }
 
 -- ---- a refusal
@@ -111,6 +110,6 @@ module _ (n k : ℕ) (rows : List ℕ) where
     list = s ∙ kept (r .answer) c e (leadersList n k rows) before;
     leader = λ d. refused-done (sym e ∙ d);
     light = λ d. refused-done (sym e ∙ d);
-    tries = λ d. refused-done (sym e ∙ d);
-    no-tries = λ _ _. z .1;
+    tries = rw e (z .1);
+    place = λ d. refused-done (sym e ∙ d);
   }

@@ -2,15 +2,16 @@
 -- words tried.
 use mathlib.Core.Path.{_≡_}
 use mathlib.Core.List.{List}
-use Prim.Native.Nat.{ℕ, _-_, _^_, _≤_, _<_}
+use Prim.Native.Nat.{ℕ, suc, _-_, _^_, _≤_, _<_}
 use lib.Dec.{leb}
 use lib.ListN.{length, getD}
 use Rattle.coding.specs.Lists.{zeros, tabulate}
 use Rattle.coding.specs.Word.{weight}
-use Rattle.coding.specs.Leader.{IsLeader, leaderOf}
-use Rattle.coding.specs.Tries.{LastLeader}
+use Rattle.coding.specs.Leader.{syndromeOf, IsLeader, leaderOf}
+use Rattle.coding.specs.Order.{order, blanks}
+use Rattle.coding.specs.Tries.{tried, LastLeader}
 use Rattle.words.specs.Limits.{maxChecks}
-use Rattle.words.specs.Refusal.{unless, andThen, onDone}
+use Rattle.words.specs.Refusal.{unless, andThen, onDone, ifDone}
 use Rattle.words.specs.declared.answer.Refusal.{Refusal}
 use Rattle.words.specs.declared.answer.Refusal.the-variants.{ShortWork}
 use Rattle.words.specs.declared.answer.Answer.{Answer}
@@ -31,6 +32,10 @@ leadersAnswer n k rows room = andThen (matrixAnswer n k rows) (workAnswer room (
 abbrev pub leadersList : ℕ → ℕ → List ℕ → List ℕ
 leadersList n k rows = tabulate (leaderOf n rows) (2 ^ (n - k))
 
+-- how many words are tried, by rising weight and of equal weight by rising number, until each syndrome has its leader
+abbrev pub leadersTried : ℕ → ℕ → List ℕ → ℕ
+leadersTried n k rows = tried (syndromeOf n rows) (blanks (2 ^ (n - k))) (order n (suc (n - k)))
+
 -- on success the parity-check rows are answered, on a refusal 0 at each entry; every syndrome of the matrix has a leader, the lightest
 -- word of the coset, of several the smallest, no heavier than n - k, and the list holds it there; every later slot, and on a refusal
 -- every slot, is as it was. The number of words tried is the place of the leader that comes last, by weight and then by number, and 0 on
@@ -42,5 +47,5 @@ pub record LeadersOf (n k : ℕ) (rows before : List ℕ) (r : Leaders) (after :
   pub list : after ≡ onDone (r .answer) (leadersList n k rows) before
   pub leader : r .answer ≡ Done → (s : ℕ) → s < 2 ^ (n - k) → IsLeader n rows s (getD after s 0)
   pub light : r .answer ≡ Done → (s : ℕ) → s < 2 ^ (n - k) → weight (getD after s 0) ≤ n - k
-  pub tries : r .answer ≡ Done → (last : ℕ) × LastLeader n rows (n - k) last (r .tried)
-  pub no-tries : (c : Refusal) → r .answer ≡ Refused c → r .tried ≡ 0
+  pub tries : r .tried ≡ ifDone (r .answer) (leadersTried n k rows) 0
+  pub place : r .answer ≡ Done → (last : ℕ) × LastLeader n rows (n - k) last (r .tried)

@@ -8,10 +8,10 @@ use lib.ListN.{length, take, drop}
 use Rattle.coding.specs.Lists.{padded}
 use Rattle.coding.specs.Check.{checks, syndrome}
 use Rattle.coding.specs.Order.{order, fills, blanks}
-use Rattle.coding.specs.Tries.{tried, LastLeader}
+use Rattle.coding.specs.Tries.{tried}
 use Rattle.words.specs.Limits.{maxChecks, width}
 use Rattle.words.specs.Accepted.{Accepted}
-use Rattle.leaders.specs.Leaders.{leadersList}
+use Rattle.leaders.specs.Leaders.{leadersList, leadersTried}
 
 -- the words of n places and weight up to c are tried by rising weight, of equal weight by rising number, and each takes the entry of its
 -- syndrome where that is blank
@@ -28,11 +28,11 @@ leadersFit n c room = leb n width && leb c maxChecks && leb (2 ^ c) room
 
 -- by the first c of the check rows hs: where there is room the first 2 ^ c entries are so filled, and every later slot, and else every
 -- slot, is as it was; r is the number of words tried, the zero word at least, and 0 where there is no room. By the check rows of an
--- accepted matrix they are its leaders, and r is the place of the leader that comes last
+-- accepted matrix they are its leaders, and r is the number of words tried for these
 pub record LeadersBy (hs : List ℕ) (n c : ℕ) (before : List ℕ) (r : ℕ) (after : List ℕ) : Type 0 where
   pub tries : r ≡ cond (leadersFit n c (length before)) (triedBy (take c hs) n c) 0
   pub room : leb 1 r ≡ leadersFit n c (length before)
   pub list : after ≡ cond (leadersFit n c (length before)) (filledBy (take c hs) n c ++ drop (2 ^ c) before) before
   pub of-matrix : (k : ℕ) (rows : List ℕ) → Accepted n k rows → c ≡ n - k → hs ≡ padded maxChecks (checks n rows)
       → leadersFit n c (length before) ≡ true
-      → (after ≡ leadersList n k rows ++ drop (2 ^ (n - k)) before) × ((last : ℕ) × LastLeader n rows (n - k) last r)
+      → (after ≡ leadersList n k rows ++ drop (2 ^ (n - k)) before) × (r ≡ leadersTried n k rows)

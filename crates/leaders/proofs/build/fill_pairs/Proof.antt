@@ -68,5 +68,6 @@ fill-pairs-spec =
     tie.close
     (tie.spec Inv-loop μ-loop (λ c. rising-start (c .before .pre)) (λ c. search needs) (λ c. search needs)
     (λ c. record { fits = place-fits (c .before .before .loop .inv .trying) (c .before .loop-test .taken) }) (λ c. search needs) (λ c. search needs)
-    fill-units-requires add-result add-result-2 same-length returns (λ c. record { fits = omega (arith, small (c .before .before .before)) }) (λ c. search needs) (λ c. search needs) loop-again (λ c. tried-long (c .before .loop .inv .so-far))
+    fill-units-requires add-result add-result-2 same-length returns
+    (λ c. record { fits = omega (arith, small (c .before .before .before)) }) (λ c. search needs) (λ c. search needs) loop-again (λ c. tried-long (c .before .loop .inv .so-far))
     (λ c. rising-end (c .before .loop .inv) (c .loop-test .left)))

@@ -5,7 +5,8 @@ use Prim.Native.Nat.{_-_}
 use native.Mathlib.Nat.{lt-of-lt-of-le, le-of-lt}
 use native.Mathlib.Omega.{arith}
 use borrow.Author.Needs.{needs, scaled-fits}
-use Rattle.leaders.proofs.TryLaws.{Rising, rising-start, rising-next, place-fits, tried-long, unit-slot, unit-entry, unit-stored, unit-passed, units-full, units-end}
+use Rattle.leaders.proofs.TryLaws.{Rising, rising-start, rising-next, place-fits, tried-long}
+use Rattle.leaders.proofs.TryLaws.{unit-slot, unit-entry, unit-stored, unit-passed, units-full, units-end}
 use Rattle.leaders.proofs.build.fill_units.Statement.{statement}
 use Rattle.leaders.proofs.build.fill_units.Tie as tie
 

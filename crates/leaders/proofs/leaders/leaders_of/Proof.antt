@@ -6,7 +6,8 @@ use borrow.Author.Needs.{needs}
 use Rattle.words.specs.Accepted.{Accepted}
 use Rattle.words.proofs.AcceptedLaws.{accepted-in}
 use Rattle.parity.proofs.CodeOfLaws.{checks-of, checks-done}
-use Rattle.leaders.proofs.LeaderPromiseLaws.{matrix-refuses, work-refuses, work-short, work-done, list-kept, leaders-stand, leaders-refused, leaders-written}
+use Rattle.leaders.proofs.LeaderPromiseLaws.{matrix-refuses, work-refuses, work-short, work-done, list-kept}
+use Rattle.leaders.proofs.LeaderPromiseLaws.{leaders-stand, leaders-refused, leaders-written}
 use Rattle.leaders.proofs.leaders.leaders_of.Statement.{statement}
 use Rattle.leaders.proofs.leaders.leaders_of.Tie as tie
 
@@ -42,7 +43,8 @@ returns-2 c =
     let a = start (t .before .before) .args in
     let f = filled (c .before .before) .fill-leaders in
     let d = c .before .if1 .taken in
-    leaders-refused (a .n) (a .k) (a .rows .now) (a .list .now) _ (list-kept (f .ensures) d) _ _ (c .refused2 .ensures .0) (c .refused2 .ensures .1, c .refused2 .ensures .2)
+    leaders-refused (a .n) (a .k) (a .rows .now) (a .list .now) _ (list-kept (f .ensures) d) _ _ (c .refused2 .ensures .0)
+    (c .refused2 .ensures .1, c .refused2 .ensures .2)
     (work-refuses (a .n) (a .k) (a .rows .now) (length (a .list .now)) (accepted t) (work-short (a .n) (a .k) (a .rows .now) (accepted t) (f .ensures) d))
 
 returns-3 : tie.Need-returns-3
