@@ -116,7 +116,7 @@ uint32_t relay_message(uint32_t n, uint32_t k, const uint32_t *rows, size_t rows
  * word, which is no answer, and RELAY_FAR. The first 2^(n - k) entries of `work` become the coset leaders by syndrome. Later
  * slots keep their values.
  * Time: most of it goes into the leaders, which are built in each call, and depends on the matrix; more words cost little. 512
- * words took 3 us with a (7,4) code, 45 to 110 us with random (28,16) rows, and 0.15 s with (28,16) rows that leave twelve places
+ * words took 3 us with a (7,4) code, 45 to 110 us with random (28,16) rows, and 0.11 s with (28,16) rows that leave twelve places
  * 0 in every codeword, the slowest found (AMD EPYC, 2.6 GHz).
  * Stack: about 6 kB. */
 uint32_t relay_decode(uint32_t n, uint32_t k, const uint32_t *rows, size_t rows_len,

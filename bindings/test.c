@@ -126,7 +126,8 @@ static void lightest(void)
     HOLDS(dmin == 3 && weights[3] == 2 && found == 0x0B);
 }
 
-/* How many words are tried, or the cause; every entry past the leaders is kept. */
+/* How many words are tried, or the cause. The last leader stands in the list, and the slot after the leaders is kept; on a refusal
+ * the list is as it was, and the rest 0. */
 static uint32_t tried(uint32_t n, uint32_t k, const uint32_t *matrix, size_t entries, uint32_t last)
 {
     uint32_t checks[RELAY_MAX_CHECKS], number, found = 99;

@@ -36,8 +36,8 @@ def words_tried():
         shows(n, rows, number)
 
 
-def every_single_place(n, k, first):
-    """Rows with a single one, from this place on: every place without a row is 0 in each codeword."""
+def single_places(k, first):
+    """Rows with a single one, from this place on: every other place is 0 in each codeword."""
     return tuple(1 << first + i for i in range(k))
 
 
@@ -45,7 +45,7 @@ def zero_places():
     title('leaders: places that are always 0')
     for n, k in ((4, 2), (9, 4), (10, 9), (12, 6), (13, 1), (14, 3)):
         for first in (0, 1, n - k):
-            leaders_call(n, k, every_single_place(n, k, first), 2**(n - k))
+            leaders_call(n, k, single_places(k, first), 2**(n - k))
 
 
 def leader_refusals():
