@@ -1,5 +1,5 @@
 -- `leaders::build::fill_pairs`: the pairs of places below p have been tried. Assumes nothing.
-use mathlib.Core.Path.{_∙_}
+use mathlib.Core.Path.{sym, _∙_}
 use Prim.Native.Nat.{_-_, _^_, _≤_}
 use native.Mathlib.Nat.{add-assoc}
 use native.Mathlib.Omega.{arith}
@@ -54,7 +54,7 @@ returns c =
     let f = c .before .before .before in
     let i = turn f in
     let (S, z) = f .fill-units .ensures .ended (c .if1 .taken) in
-    rw (add-assoc (i .before .loop .tried) (f .fill-units .result) 1) (rising-full (i .before .loop .inv) (i .loop-test .taken) S z)
+    rw (sym (add-assoc (i .before .loop .tried) (f .fill-units .result) 1)) at (rising-full (i .before .loop .inv) (i .loop-test .taken) S z)
 
 loop-again : tie.Need-loop-again Inv-loop μ-loop
 loop-again c =
