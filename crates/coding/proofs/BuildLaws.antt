@@ -5,7 +5,7 @@ use mathlib.Core.Logic.{_≢_}
 use mathlib.Core.List.{List, [], _∷_, _++_, map}
 use mathlib.Core.Option.{Option, none, some}
 use mathlib.Core.Bool.{Bool, true, false, not, cond, _&&_}
-use Prim.Native.Nat.{ℕ, zero, suc, _+_, _-_, _^_, _<_, suc-le-suc}
+use Prim.Native.Nat.{ℕ, zero, suc, _+_, _-_, _^_, _≤_, _<_, suc-le-suc}
 use native.Mathlib.Nat.{pow-suc, add-assoc}
 use native.Mathlib.Decide.{ℕ-discrete}
 use native.Mathlib.Omega.{arith}
@@ -119,6 +119,13 @@ order-light n (suc t) =
     (all-more (λ w. weight w < t) (λ w. weight w < suc t) (λ w h. omega arith) (order n t) (order-light n t))
     (all-more (Weighs n t) (λ w. weight w < suc t) (λ w h. omega (arith, h .1)) (words n t) (words-are n t))
 
+-- a word lighter than 32 is not the blank entry
+pub light-word : (w : ℕ) → weight w < 32 → w ≢ noLeader
+light-word w h e = omega (arith, ap weight e ∙ ones-ones 32)
+
+pub order-words : (n t : ℕ) → t ≤ 32 → All (λ w. w ≢ noLeader) (order n t)
+order-words n t h = all-more (λ w. weight w < t) (λ w. w ≢ noLeader) (λ w l. light-word w (omega arith)) (order n t) (order-light n t)
+
 -- ---- the build: every entry holds the leader of its syndrome
 
 pub built : (n : ℕ) (rs : List ℕ) → Inside n rs → length (frees n rs) < 32
@@ -126,9 +133,7 @@ pub built : (n : ℕ) (rs : List ℕ) → Inside n rs → length (frees n rs) < 
     → getD (fills (syndromeOf n rs) (blanks (2 ^ length (frees n rs))) (order n (suc (length (frees n rs))))) s 0 ≡ leaderOf n rs s
 built n rs fits small s h =
     fills-first (syndromeOf n rs) (order n (suc c)) (blanks (2 ^ c)) s
-    (all-more (λ w. weight w < suc c) (λ w. w ≢ noLeader) (λ w l e. absurd (omega (arith, ap weight e ∙ ones-ones 32))) (order n (suc c))
-    (order-light n (suc c)))
-    (rw (length-replicate (2 ^ c) (noLeader)) h) (getD-replicate (2 ^ c) s (noLeader) 0 h)
+    (order-words n (suc c) small) (rw (length-replicate (2 ^ c) (noLeader)) h) (getD-replicate (2 ^ c) s (noLeader) 0 h)
     ∙ go (firstIn p (order n (suc c))) (first-lightest n (suc c) p)
   where
     c : ℕ

@@ -12,10 +12,8 @@ use lib.Dec.{eqb}
 use lib.ListN.{length, getD, set, take, length-take, length-replicate, getD-replicate}
 use lib.Seq.{getD-set-same, getD-set-other, getD-take}
 use lib.Pow.{pow-pos}
-use lib.Count.{ones-ones}
 use borrow.Author.Tests.{eq-eqb, ne-eqb}
 use Rattle.coding.specs.Lists.{first}
-use Rattle.coding.specs.Word.{weight}
 use Rattle.coding.specs.Matrix.{Inside}
 use Rattle.coding.specs.Check.{frees}
 use Rattle.coding.specs.Leader.{syndromeOf, noLeader, leaderOf}
@@ -24,7 +22,7 @@ use Rattle.coding.specs.Tries.{blankCount, tried, Before, LastLeader}
 use Rattle.coding.proofs.SearchLaws.{first-is}
 use Rattle.coding.proofs.CountLaws.{count-none}
 use Rattle.coding.proofs.LeaderLaws.{leader-light, syndromeOf-lt}
-use Rattle.coding.proofs.BuildLaws.{All, all-more, order-light, built, fill-blank, fill-held, fill-length}
+use Rattle.coding.proofs.BuildLaws.{All, light-word, order-words, built, fill-blank, fill-held, fill-length}
 use Rattle.coding.proofs.BuildLaws.{fills-done, fills-length, blank-set, blank-all}
 use Rattle.coding.proofs.OrderedLaws.{order-is}
 
@@ -165,9 +163,6 @@ module _ (n : ℕ) (rs : List ℕ) (fits : Inside n rs) (small : length (frees n
   abbrev list : List ℕ
   list = fills syn (blanks (2 ^ c)) ws
 
-  light-word : (w : ℕ) → weight w < suc c → w ≢ noLeader
-  light-word w h e = omega (arith, ap weight e ∙ ones-ones 32)
-
   leader : (s : ℕ) → s < 2 ^ c → leaderOf n rs s ≢ noLeader
   leader s h = light-word (leaderOf n rs s) (omega (arith, leader-light n rs fits s h))
 
@@ -182,7 +177,7 @@ module _ (n : ℕ) (rs : List ℕ) (fits : Inside n rs) (small : length (frees n
 
   ended : (i : ℕ) × Ends syn (blanks (2 ^ c)) ws i
   ended =
-      last-tried syn ws (blanks (2 ^ c)) (all-more (λ w. weight w < suc c) (λ w. w ≢ noLeader) light-word ws (order-light n (suc c)))
+      last-tried syn ws (blanks (2 ^ c)) (order-words n (suc c) small)
       (λ w. rw long (syndromeOf-lt n rs fits w)) (rw (blank-all (2 ^ c)) (pow-pos c)) none-blank
 
   pub last-leader : (last : ℕ) × LastLeader n rs c last (tried syn (blanks (2 ^ c)) ws)

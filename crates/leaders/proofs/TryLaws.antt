@@ -10,7 +10,7 @@ use native.Mathlib.Omega.{arith}
 use lib.ListN.{length, getD, set, length-set, length-map, length-replicate, getD-replicate}
 use lib.Pow.{pow-lt, pow-pos, pow-add, pow-mono}
 use lib.Bits.{xor-shifted}
-use lib.Count.{ones-cat, ones-ones}
+use lib.Count.{ones-cat}
 use Rattle.coding.specs.Word.{_⊕_, weight}
 use Rattle.coding.specs.Matrix.{encode, Inside}
 use Rattle.coding.specs.Check.{syndrome}
@@ -22,7 +22,7 @@ use Rattle.coding.proofs.WeightLaws.{weight-zero, weight-pow}
 use Rattle.coding.proofs.MatrixLaws.{encode-xor, encode-zero, row-message}
 use Rattle.coding.proofs.LinearLaws.{syndrome-columns}
 use Rattle.coding.proofs.ListLaws.{length-tabulate, getD-tabulate}
-use Rattle.coding.proofs.BuildLaws.{fill-blank, fill-held, fills-length, fills-done, fills-append, words-few, words-step, blank-set, blank-all}
+use Rattle.coding.proofs.BuildLaws.{light-word, fill-blank, fill-held, fills-length, fills-done, fills-append, words-few, words-step, blank-set, blank-all}
 use Rattle.coding.proofs.OrderedLaws.{words-count, order-count, order-fewer}
 use Rattle.coding.proofs.TriesLaws.{tried-done, tried-next, tried-append, tried-le}
 use Rattle.leaders.specs.Inner.Built.{columnsOf, Trying, Tried, TriedUnits}
@@ -110,10 +110,6 @@ tried-wider {list} {cols} {p} {t} {prefix} {after} {left} {r} k R z (suc d) h =
     let under : suc d + p - 1 ≡ d + p = omega arith in
     let low : Tried list cols (suc d + p - 1) t prefix after left r = rw under (tried-wider k R z d (omega arith)) in
     rw (add-zero r) at (tried-both h (omega arith) k low (tried-none (R .left) z))
-
--- a word lighter than 32 is not the blank entry
-light-word : (w : ℕ) → weight w < 32 → w ≢ noLeader
-light-word w h e = omega (arith, ap weight e ∙ ones-ones 32)
 
 -- ---- the places below m are free
 

@@ -35,7 +35,7 @@ turn c = c .before .before .before .before
 fill-words-requires : tie.Need-fill-words-requires Inv-loop μ-loop
 fill-words-requires c κs =
     let t = c .before .before in
-    offered-trying (t .before .before .loop .inv) (t .before .loop-test .taken) (ltb-true 0 _ (t .if1 .taken))
+    offered-trying (t .before .before .loop .inv) (omega (arith, t .before .loop-test .taken)) (ltb-true 0 _ (t .if1 .taken))
 
 add-tried : tie.Need-add-tried Inv-loop μ-loop
 add-tried c =
@@ -46,13 +46,13 @@ add-tried c =
 loop-again : tie.Need-loop-again Inv-loop μ-loop
 loop-again c =
     let f = c .before .before in
-    offered-next (turn f .before .loop .inv) (turn f .loop-test .taken) (f .fill-words .ensures)
+    offered-next (turn f .before .loop .inv) (omega (arith, turn f .loop-test .taken)) (f .fill-words .ensures)
 
 returns : tie.Need-returns Inv-loop μ-loop
 returns c =
     let l = c .before .loop in
     rw (long (c .before .before)) at
-    (offered-end (l .inv) (⊎-elim (λ w. inr (omega (arith, ltb-false 0 (l .blank) (w .1 .left)))) (λ w. inl (w .left)) (c .loop-test .came)))
+    (offered-end (l .inv) (⊎-elim (λ w. inr (omega (arith, ltb-false 0 (l .blank) (w .1 .left)))) (λ w. inl (omega (arith, w .left))) (c .loop-test .came)))
 
 pub fill-list-spec : {M : Type 1} → statement M
 fill-list-spec =
