@@ -2,7 +2,7 @@
 #include "../bindings/relaymarten.h"
 #include <string.h>
 
-enum { WORDS = RELAY_MAX_WORDS, FIXED = 1000 };
+enum { WORDS = RELAY_MAX_WORDS, DEPTH = RELAY_MAX_DEPTH, FIXED = 1000 };
 
 static uint64_t state = 0x9E3779B97F4A7C15;
 
@@ -18,8 +18,9 @@ static uint64_t next(void)
 static struct {
     uint32_t n, k, rows[RELAY_MAX_ROWS], words[WORDS], fixed[FIXED], width, wide;
     uint32_t tried; /* how many words are to be tried, where that is known */
-    size_t count, prepared;
-    uint8_t check[FIXED], sheet[RELAY_MAX_SHEET];
+    uint32_t radius;
+    size_t count, prepared, fewer; /* fewer: the words of the run that is subtracted */
+    uint8_t check[FIXED], bits[DEPTH * RELAY_MAX_PLACES], sheet[RELAY_MAX_SHEET];
     uint64_t data[FIXED];
     size_t sheet_len;
 } in;
@@ -27,7 +28,7 @@ static struct {
 typedef struct {
     uint32_t number, reduced[RELAY_MAX_ROWS], checks[RELAY_MAX_CHECKS], weights[RELAY_WEIGHTS], dmin, lightest, tried, words[WORDS];
     uint32_t work[RELAY_MAX_LEADERS], fixed[FIXED];
-    uint8_t counts[FIXED], check[FIXED], out[RELAY_MAX_OUTPUT];
+    uint8_t counts[FIXED], check[FIXED], bits[DEPTH * RELAY_MAX_PLACES], out[RELAY_MAX_OUTPUT];
     uint64_t data[FIXED];
     size_t value, length;
 } Written;
@@ -36,7 +37,7 @@ static Written ours, theirs;
 
 void set_words(bool all)
 {
-    in.count = all ? in.prepared : 0;
+    in.count = all ? in.prepared : in.fewer;
 }
 
 bool same(void)
@@ -148,6 +149,58 @@ static void decode_plain(void)
     uint32_t d;
     theirs.number = plain_decode(in.n, in.k, in.rows, in.k, false, 0, in.words, in.count, theirs.words, WORDS, theirs.counts, WORDS,
                                  theirs.work, RELAY_MAX_LEADERS, &theirs.value, false, &d);
+}
+
+/* Sixteen codewords sent interleaved, received with a burst of as many bits as the radius mends; the words become the received. */
+static void burst(uint32_t radius)
+{
+    size_t value, length = DEPTH * in.n;
+    in.radius = radius;
+    sent(0);
+    in.count = in.prepared = DEPTH;
+    plain_interleave(in.n, in.k, in.rows, in.k, in.words, DEPTH, in.bits, length, &value);
+    for (size_t b = length / 2; b < length / 2 + DEPTH * radius; b++)
+        in.bits[b] ^= 1;
+    plain_deinterleave(in.n, in.k, in.rows, in.k, DEPTH, in.bits, length, in.words, DEPTH, &value);
+}
+
+static void small_bits(void) { dense(7, 4); burst(0); }
+static void wide_bits(void) { dense(28, 16); burst(0); }
+
+/* The later eight words: the run with the first eight is subtracted. */
+static void later_bits(void) { wide_bits(); in.fewer = DEPTH / 2; }
+
+static void small_burst(void)
+{
+    static const uint32_t rows[4] = {0x0B, 0x16, 0x27, 0x45};
+    in.n = 7;
+    in.k = 4;
+    memcpy(in.rows, rows, sizeof rows);
+    burst(1);
+}
+
+static void perfect_burst(void) { perfect_code(); burst(3); }
+static void dense_burst(void) { dense(28, 16); burst(1); }
+
+/* Without words, which would be refused, the matrix alone is asked for, by encode. */
+#define INTERLEAVE(f, w) w.number = f(in.n, in.k, in.rows, in.k, in.words, in.count, w.bits, in.count * in.n, &w.value)
+#define DEINTERLEAVE(f, w) w.number = f(in.n, in.k, in.rows, in.k, in.count, in.bits, in.count * in.n, w.words, WORDS, &w.value)
+static void interleave_ours(void) { if (in.count) INTERLEAVE(relay_interleave, ours); else encode_ours(); }
+static void interleave_plain(void) { if (in.count) INTERLEAVE(plain_interleave, theirs); else encode_plain(); }
+static void deinterleave_ours(void) { if (in.count) DEINTERLEAVE(relay_deinterleave, ours); else encode_ours(); }
+static void deinterleave_plain(void) { if (in.count) DEINTERLEAVE(plain_deinterleave, theirs); else encode_plain(); }
+
+#define DECODE_BITS(f, w)                                                                                                         \
+    w.number = f(in.n, in.k, in.rows, in.k, in.radius, in.count, in.bits, in.count * in.n, w.words, WORDS, w.counts, WORDS,       \
+                 w.work, RELAY_MAX_LEADERS, &w.value)
+static void decode_bits_ours(void) { DECODE_BITS(relay_decode_interleaved, ours); }
+static void decode_bits_plain(void) { DECODE_BITS(plain_decode_interleaved, theirs); }
+
+/* The received words themselves. */
+static void decode_bits_words(void)
+{
+    theirs.number = relay_decode(in.n, in.k, in.rows, in.k, 1, in.radius, in.words, in.count, theirs.words, WORDS, theirs.counts,
+                                 WORDS, theirs.work, RELAY_MAX_LEADERS, &theirs.value);
 }
 
 static void golay_messages(void)
@@ -306,6 +359,18 @@ static void run_plain(void) { theirs.length = plain_run(in.sheet, in.sheet_len, 
     {"Words, perfect (23,12)", name, "parities", prepare, decode_ours, decode_plain, {.loops = true}, WORDS, true, true},           \
     {"Words, perfect (23,12)", name, "tables of syndromes", prepare, decode_ours, decode_plain, TABLES, WORDS, true, true}
 
+#define BITS_CASE(name, prepare, f, bits)                                                                                         \
+    {"Interleaving", name, "word by word", prepare, f##_ours, f##_plain, {0}, bits, false, true},                                 \
+    {"Interleaving", name, "place by place", prepare, f##_ours, f##_plain, {.places = true}, bits, false, true}
+
+#define LATER_CASE(name, f)                                                                                                       \
+    {"Interleaving", name, "word by word", later_bits, f##_ours, f##_plain, {0}, DEPTH / 2 * 28, false, true}
+
+#define BURST_CASE(name, prepare, bits)                                                                                           \
+    {"Interleaving", name, "word by word, quick", prepare, decode_bits_ours, decode_bits_plain, {.blocks = true, .loops = true},  \
+     bits, true, false},                                                                                                          \
+    {"Interleaving", name, "relay_decode of the words", prepare, decode_bits_ours, decode_bits_words, {0}, bits, false, false}
+
 #define GOLAY_CASE(name, prepare)                                                                                                 \
     {"Golay", name, "000's steps", prepare, golay_decode_ours, golay_decode_steps, {0}, FIXED, true, false},                      \
     {"Golay", name, "twelve tests side by side", prepare, golay_decode_ours, golay_decode_lanes, {0}, FIXED, true, false},        \
@@ -340,6 +405,15 @@ const Case cases[] = {
     WORDS_CASE("decode, clean", clean),
     WORDS_CASE("decode, 1 changed place", damaged),
     WORDS_CASE("decode, random words", any_words),
+    BITS_CASE("interleave (7,4)", small_bits, interleave, DEPTH * 7),
+    BITS_CASE("interleave (28,16)", wide_bits, interleave, DEPTH * 28),
+    LATER_CASE("interleave (28,16), later words", interleave),
+    BITS_CASE("deinterleave (7,4)", small_bits, deinterleave, DEPTH * 7),
+    BITS_CASE("deinterleave (28,16)", wide_bits, deinterleave, DEPTH * 28),
+    LATER_CASE("deinterleave (28,16), later words", deinterleave),
+    BURST_CASE("decode within 1, (7,4)", small_burst, DEPTH * 7),
+    BURST_CASE("decode within 3, perfect (23,12)", perfect_burst, DEPTH * 23),
+    BURST_CASE("decode within 1, dense (28,16)", dense_burst, DEPTH * 28),
     {"Golay", "encode", "row sums", golay_messages, golay_encode_ours, golay_encode_plain, {0}, FIXED, false, false},
     GOLAY_CASE("decode, 0 changed places", golay_0),
     GOLAY_CASE("decode, 1 changed place", golay_1),

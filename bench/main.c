@@ -1,10 +1,11 @@
 /* The proved library against plain C, case by case:
- *   bench list                      a line for each case: section, name, the plain C, the words of a run, whether counts of ones
- *                                   matter to the plain C, and whether the run with no words is to be subtracted
+ *   bench list                      a line for each case: section, name, the plain C, the words (of interleaving the bits) of a
+ *                                   run, whether counts of ones matter to the plain C, and whether the run with no words, or
+ *                                   fewer, is to be subtracted
  *   bench check CASE                both sides give the same
  *   bench time CASE                 nanoseconds of a run, library and plain
  *   bench count CASE SIDE WORDS     makes runs of one side inside `measured`, for callgrind; prints how many
- * CASE is a number from 0, SIDE ours or plain, WORDS all or none.
+ * CASE is a number from 0, SIDE ours or plain, WORDS all or, for the run to be subtracted, none.
  */
 #include "cases.h"
 #include <stdio.h>

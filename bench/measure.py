@@ -13,6 +13,8 @@ import sys
 BUILDS = ["call", "inline", "popcnt"]
 GOALS = [("(72,64)", "(72,64) decode", 1.25), ("Widths", "word of 16 or 32 data bits", 1.15), ("Golay", "Golay decode", 1.05),
          ("Leaders", "leaders", 1.15), ("Sheets of 512 words", "sheet", 1.5)]
+# Of a bit that is interleaved or deinterleaved; and the decode after it, beside these, by a decode of the same words.
+BIT_INSTRUCTIONS, SAME_WORDS, SAME_WORDS_GOAL = 8, "relay_decode of the words", 1.1
 
 Case = collections.namedtuple("Case", "index section name plain words matters less")
 # library: (instructions, nanoseconds); ratios: by build, of the same
@@ -31,7 +33,7 @@ def run_instructions(program, case, words, side):
 
 
 def instructions(program, case, side):
-    """Of a word; the run with no words is subtracted where the case says so."""
+    """Of a word or bit; the run with none or fewer is subtracted where the case says so."""
     none = run_instructions(program, case, "none", side) if case.less else 0
     return (run_instructions(program, case, "all", side) - none) / case.words
 
@@ -58,7 +60,7 @@ def measure(directory, case, known):
 def number(x):
     if x >= 1e6:
         return "%.2f M" % (x / 1e6)
-    return "%.1f k" % (x / 1e3) if x >= 1e4 else "%.0f" % x
+    return "%.1f k" % (x / 1e3) if x >= 1e4 else "%.0f" % x if x >= 10 else "%.2f" % x
 
 
 def duration(ns):
@@ -85,6 +87,11 @@ def section_table(results):
         for r in results])
 
 
+def goal_row(title, goal, plain, build, found):
+    worst, name = max(found)
+    return ["%s within %.2f" % (title, goal), plain, build, "%.2f (%s)" % (worst, name), "met" if worst <= goal else "not met"]
+
+
 def goal_rows(title, goal, results):
     """For each C and build the greatest ratio of instructions among the cases, but for encoding and reading back."""
     found = collections.defaultdict(list)
@@ -93,8 +100,17 @@ def goal_rows(title, goal, results):
             for build, (ratio, _) in r.ratios.items():
                 found[r.case.plain, build if r.case.matters else ""].append((ratio, r.case.name))
     for (plain, build), ratios in found.items():
-        worst, name = max(ratios)
-        yield ["%s within %.2f" % (title, goal), plain, build, "%.2f (%s)" % (worst, name), "met" if worst <= goal else "not met"]
+        yield goal_row(title, goal, plain, build, ratios)
+
+
+def interleaving_rows(results):
+    """The instructions of a bit in each case, and the greatest ratio of the decode less so many a bit to that of the same words."""
+    for name, moved in {r.case.name: r.library[0] for r in results if r.case.less}.items():
+        yield goal_row("instructions of a bit", BIT_INSTRUCTIONS, "", "", [(moved, name)])
+    decoded = [((1 - BIT_INSTRUCTIONS / r.library[0]) * r.ratios["call"][0], r.case.name)
+               for r in results if r.case.plain == SAME_WORDS]
+    title = "interleaved decode less %d instructions a bit" % BIT_INSTRUCTIONS
+    yield goal_row(title, SAME_WORDS_GOAL, SAME_WORDS, "", decoded)
 
 
 def machine():
@@ -115,9 +131,9 @@ def main():
         sections[case.section].append(measure(directory, case, known))
         print(case.section, case.name, case.plain, sections[case.section][-1], sep="; ", file=sys.stderr)
     print(open(os.path.join(os.path.dirname(__file__), "head.md")).read() + machine())
-    print("## Goals\n\nThe greatest ratio of instructions among the cases below.\n")
-    print(table(["Goal", "C", "build", "greatest ratio", ""],
-                [row for section, title, goal in GOALS for row in goal_rows(title, goal, sections[section])]))
+    print("## Goals\n\nThe greatest ratio of instructions among the cases below; of a bit the instructions themselves.\n")
+    rows = [row for section, title, goal in GOALS for row in goal_rows(title, goal, sections[section])]
+    print(table(["Goal", "C", "build", "greatest ratio", ""], rows + list(interleaving_rows(sections["Interleaving"]))))
     print("\n".join("## %s\n\n%s" % (section, section_table(results)) for section, results in sections.items()), end="")
 
 

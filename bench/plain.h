@@ -24,6 +24,7 @@ typedef struct {
     bool blocks; /* codewords are walked in blocks, not in Gray order */
     bool loops;  /* the leaders' last two ones are placed in loops, not by recursion */
     bool tables; /* syndromes by tables of seven places, not by a parity for each check row */
+    bool places; /* interleaved bits place by place, not word by word */
 } Ways;
 
 extern Ways ways;
@@ -33,6 +34,8 @@ void block_walk(uint32_t k, const uint32_t *rows, uint32_t counts[33], uint32_t 
 uint32_t gray_distance(uint32_t k, const uint32_t *rows);
 uint32_t block_distance(uint32_t k, const uint32_t *rows);
 
+/* Causes 1 to 4. */
+uint32_t plain_accept(uint32_t n, uint32_t k, const uint32_t *rows, size_t rows_len, size_t *value);
 uint32_t plain_describe(uint32_t n, uint32_t k, const uint32_t *rows, size_t rows_len, uint32_t reduced[16], uint32_t checks[12],
                         uint32_t counts[33], uint32_t *dmin, uint32_t *lightest, size_t *value);
 uint32_t plain_leaders(uint32_t n, uint32_t k, const uint32_t *rows, size_t rows_len, uint32_t *list, size_t list_len,
@@ -45,6 +48,14 @@ uint32_t plain_message(uint32_t n, uint32_t k, const uint32_t *rows, size_t rows
 uint32_t plain_decode(uint32_t n, uint32_t k, const uint32_t *rows, size_t rows_len, bool within, uint32_t radius,
                       const uint32_t *words, size_t m, uint32_t *out, size_t out_len, uint8_t *counts, size_t counts_len,
                       uint32_t *work, size_t work_len, size_t *value, bool measured, uint32_t *d);
+
+uint32_t plain_interleave(uint32_t n, uint32_t k, const uint32_t *rows, size_t rows_len, const uint32_t *words, size_t depth,
+                          uint8_t *bits, size_t bits_len, size_t *value);
+uint32_t plain_deinterleave(uint32_t n, uint32_t k, const uint32_t *rows, size_t rows_len, size_t depth, const uint8_t *bits,
+                            size_t bits_len, uint32_t *out, size_t out_len, size_t *value);
+uint32_t plain_decode_interleaved(uint32_t n, uint32_t k, const uint32_t *rows, size_t rows_len, uint32_t radius, size_t depth,
+                                  const uint8_t *bits, size_t bits_len, uint32_t *out, size_t out_len, uint8_t *counts,
+                                  size_t counts_len, uint32_t *work, size_t work_len, size_t *value);
 
 /* Fills the tables of the fixed codes; the table_ functions ask for it. */
 void prepare_tables(void);

@@ -1,4 +1,5 @@
-/* A (6,3) code: what it is, its coset leaders, three messages sent, damaged, decoded and read back; then the two fixed codes and a code sheet.
+/* A (6,3) code: what it is, its coset leaders, three messages sent, damaged, decoded and read back; three words of a (7,4) code
+ * sent interleaved, with a burst; then the two fixed codes and a code sheet.
  * Built and run by bench/run, which compares what it prints with example.out. */
 #include "relaymarten.h"
 #include <inttypes.h>
@@ -80,6 +81,30 @@ static void send(void)
             printf("message %" PRIu32 "\n", read[i]);
 }
 
+static void interleaved(void)
+{
+    const uint32_t matrix[4] = {0x0B, 0x16, 0x27, 0x45}, words[3] = {0x1D, 0x45, 0x7F};
+    uint32_t decoded[3], work[8];
+    uint8_t bits[3 * 7], counts[3];
+    size_t value;
+    if (relay_interleave(7, 4, matrix, 4, words, 3, bits, sizeof bits, &value) != RELAY_DONE)
+        return;
+    printf("interleaved ");
+    for (size_t b = 0; b < sizeof bits; b++)
+        putchar('0' + bits[b]);
+    for (int b = 10; b <= 12; b++) /* a burst of 3 * 1 bits */
+        bits[b] ^= 1;
+    if (relay_decode_interleaved(7, 4, matrix, 4, 1, 3, bits, sizeof bits, decoded, 3, counts, 3, work, 8, &value) != RELAY_DONE)
+        return;
+    printf(", bits 10 to 12 changed, gives");
+    for (int i = 0; i < 3; i++) {
+        putchar(' ');
+        print_word(7, decoded[i]);
+        printf(" %d", counts[i]);
+    }
+    putchar('\n');
+}
+
 static void fixed_codes(void)
 {
     uint32_t word, corrected;
@@ -119,6 +144,7 @@ int main(void)
     describe();
     leaders();
     send();
+    interleaved();
     fixed_codes();
     sheet();
     return 0;

@@ -31,7 +31,7 @@ extern "C" {
 
 /* The version of this header. */
 #define RELAY_VERSION_MAJOR 0
-#define RELAY_VERSION_MINOR 7
+#define RELAY_VERSION_MINOR 8
 #define RELAY_VERSION_PATCH 0
 #define RELAY_VERSION (10000 * RELAY_VERSION_MAJOR + 100 * RELAY_VERSION_MINOR + RELAY_VERSION_PATCH)
 
@@ -45,6 +45,7 @@ enum {
     RELAY_MAX_CHECKS = 12,    /* check rows, n - k; entries of `checks` */
     RELAY_WEIGHTS = 33,       /* entries of `weight_counts`: weights 0 to 32 */
     RELAY_MAX_WORDS = 512,    /* words of a batch */
+    RELAY_MAX_DEPTH = 16,     /* words that are sent interleaved */
     RELAY_MAX_LEADERS = 4096, /* entries of the working list, 2^(n - k) */
     RELAY_MAX_SHEET = 4096,   /* bytes of a code sheet */
     RELAY_MAX_OUTPUT = 20480, /* bytes that relay_run asks for */
@@ -53,8 +54,8 @@ enum {
 
 /* Numbers. A call that may refuse returns 0, or the number of the first cause that refuses it, and writes at *value the value
  * beside it: the first such row or word, from 0, where the cause is about one, else 0. A call states its causes; they are tested
- * in rising order, 14 and 15 before all others. A refused call on lists leaves every list as it was. Later versions may have more numbers; 11 stays unused.
- * docs/REFUSALS.md says of each what to do. */
+ * in rising order, but 14 and 15 before all others, and 16 and 17 after 5. A refused call on lists leaves every list as it was.
+ * Later versions may have more numbers; 11 stays unused. docs/REFUSALS.md says of each what to do. */
 enum {
     RELAY_DONE = 0,
     RELAY_OUT_OF_RANGE = 1,     /* n, k or n - k is out of range */
@@ -70,7 +71,9 @@ enum {
     RELAY_SHEET_LAYOUT = 12,    /* of relay_run alone: the sheet is cut, too long, or a field has a wrong length; value: the byte */
     RELAY_SHEET_TAG = 13,       /* of relay_run alone: a tag is unknown, does not rise or is missing; value: the byte */
     RELAY_NO_WIDTH = 14,        /* the width is none of 16, 32 and 64 */
-    RELAY_BEYOND_WIDTH = 15     /* the data or the check bits go beyond those of the width */
+    RELAY_BEYOND_WIDTH = 15,    /* the data or the check bits go beyond those of the width */
+    RELAY_NO_DEPTH = 16,        /* the depth is not 1 to RELAY_MAX_DEPTH */
+    RELAY_NO_BITS = 17          /* the list of bits is not depth * n long or, when received, has a byte above 1 */
 };
 
 /* What the code of a matrix is. Causes 1 to 4.
@@ -124,6 +127,34 @@ uint32_t relay_decode(uint32_t n, uint32_t k, const uint32_t *rows, size_t rows_
                       const uint32_t *words, size_t words_len,
                       uint32_t *out, size_t out_len, uint8_t *counts, size_t counts_len,
                       uint32_t *work, size_t work_len, size_t *value);
+
+/* Interleaves words of n places, one byte a bit: place j of word i becomes bit number L * j + i, where the depth L is the number of
+ * words. Neighbouring bits belong to different words, so that a burst changes few places of each. Causes 1 to 4, 16, 17 for a list
+ * `bits` of another length than L * n, and 7. Words that are no codewords are sent too; what `bits` held is not looked at.
+ * Written: every byte of `bits`, as 0 or 1.
+ * Stack: about 2 kB. */
+uint32_t relay_interleave(uint32_t n, uint32_t k, const uint32_t *rows, size_t rows_len,
+                          const uint32_t *words, size_t words_len,
+                          uint8_t *bits, size_t bits_len, size_t *value);
+
+/* Deinterleaves: sorts received bits back into as many words as the depth says. Causes 1 to 4, 16, 17 for a list of another length
+ * than depth * n or with a byte above 1, and 8.
+ * Written: slot i of `out` becomes word i, its place j being bit number depth * j + i; later slots keep their values.
+ * Stack: about 2 kB. */
+uint32_t relay_deinterleave(uint32_t n, uint32_t k, const uint32_t *rows, size_t rows_len,
+                            size_t depth, const uint8_t *bits, size_t bits_len,
+                            uint32_t *out, size_t out_len, size_t *value);
+
+/* Deinterleaves received bits, as relay_deinterleave, and decodes the words within `radius`, as relay_decode. Causes 1 to 5, 16, 17,
+ * 8 and 9; 6 and 7 never arise. The call either is refused, with every list as it was, or succeeds.
+ * Written: the three lists, as by relay_decode of these words. Where codewords were sent and the changed bits fit in depth * radius
+ * consecutive places of the list, wherever these begin, every word comes back.
+ * Time: as relay_decode.
+ * Stack: about 6 kB. */
+uint32_t relay_decode_interleaved(uint32_t n, uint32_t k, const uint32_t *rows, size_t rows_len,
+                                  uint32_t radius, size_t depth, const uint8_t *bits, size_t bits_len,
+                                  uint32_t *out, size_t out_len, uint8_t *counts, size_t counts_len,
+                                  uint32_t *work, size_t work_len, size_t *value);
 
 /* The extended Golay code (24,12): places 0 to 11 are checks, 12 to 23 the message. A refusal writes 0 everywhere, *value included.
  * Encode: cause 7, a message with a one past place 11. Stack: less than 1 kB. */
@@ -191,6 +222,8 @@ static inline const char *relay_text(uint32_t number)
     case RELAY_SHEET_TAG: return "a tag is unknown or does not rise, or one is missing at the end";
     case RELAY_NO_WIDTH: return "the width is none of 16, 32 and 64";
     case RELAY_BEYOND_WIDTH: return "the data or check bits go beyond those of the width";
+    case RELAY_NO_DEPTH: return "the depth is out of range: it is 1 to 16";
+    case RELAY_NO_BITS: return "the bits are not depth times n bytes or, when received, have one above 1";
     default: return "a number that this version does not know";
     }
 }

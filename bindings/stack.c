@@ -12,7 +12,7 @@
 enum { STACK = 1 << 18, MARK = 0xA5, RED_ZONE = 128 };
 
 static uint32_t rows[RELAY_MAX_ROWS], words[RELAY_MAX_WORDS], out[RELAY_MAX_WORDS], work[RELAY_MAX_LEADERS];
-static uint8_t counts[RELAY_MAX_WORDS], sheet[RELAY_MAX_SHEET], printed[RELAY_MAX_OUTPUT];
+static uint8_t counts[RELAY_MAX_WORDS], bits[RELAY_MAX_DEPTH * RELAY_MAX_PLACES], sheet[RELAY_MAX_SHEET], printed[RELAY_MAX_OUTPUT];
 static size_t sheet_len, value;
 static volatile uint32_t number;
 
@@ -80,6 +80,22 @@ static void decode(void)
                           work, RELAY_MAX_LEADERS, &value);
 }
 
+static void interleave(void)
+{
+    number = relay_interleave(28, 16, rows, 16, words, RELAY_MAX_DEPTH, bits, sizeof bits, &value);
+}
+
+static void deinterleave(void)
+{
+    number = relay_deinterleave(28, 16, rows, 16, RELAY_MAX_DEPTH, bits, sizeof bits, out, RELAY_MAX_DEPTH, &value);
+}
+
+static void decode_interleaved(void)
+{
+    number = relay_decode_interleaved(28, 16, rows, 16, 0, RELAY_MAX_DEPTH, bits, sizeof bits, out, RELAY_MAX_DEPTH, counts,
+                                      RELAY_MAX_DEPTH, work, RELAY_MAX_LEADERS, &value);
+}
+
 static void golay_encode(void) { number = relay_golay_encode(0xABC, out, &value); }
 static void golay_decode(void) { number = relay_golay_decode(0x700ABC, out, counts, &value); }
 static void golay_message(void) { number = relay_golay_message(0, out, &value); }
@@ -132,6 +148,9 @@ static const struct {
     {"relay_encode", 2, encode},
     {"relay_message", 3, message},
     {"relay_decode", 6, decode},
+    {"relay_interleave", 2, interleave},
+    {"relay_deinterleave", 2, deinterleave},
+    {"relay_decode_interleaved", 6, decode_interleaved},
     {"relay_golay_encode", 1, golay_encode},
     {"relay_golay_decode", 1, golay_decode},
     {"relay_golay_message", 1, golay_message},

@@ -16,7 +16,7 @@ static void holds(int fact, const char *text, int line)
     }
 }
 
-static const uint32_t rows[3] = {0x31, 0x2A, 0x1C};
+static const uint32_t rows[3] = {0x31, 0x2A, 0x1C}, seven[4] = {0x0B, 0x16, 0x27, 0x45};
 static uint32_t words[RELAY_MAX_WORDS + 1], out[RELAY_MAX_WORDS + 1], work[RELAY_MAX_LEADERS];
 static uint8_t counts[RELAY_MAX_WORDS + 1];
 
@@ -32,13 +32,13 @@ static void version(void)
 static void texts(void)
 {
     const char *unknown = relay_text(99);
-    for (uint32_t i = RELAY_DONE; i <= RELAY_BEYOND_WIDTH; i++) {
+    for (uint32_t i = RELAY_DONE; i <= RELAY_NO_BITS; i++) {
         HOLDS(strlen(relay_text(i)) > 0 && (strcmp(relay_text(i), unknown) == 0) == (i == 11));
         for (uint32_t j = 0; j < i; j++)
             HOLDS(strcmp(relay_text(i), relay_text(j)) != 0);
     }
     HOLDS(strlen(unknown) > 0);
-    HOLDS(strcmp(relay_text(RELAY_BEYOND_WIDTH + 1), unknown) == 0);
+    HOLDS(strcmp(relay_text(RELAY_NO_BITS + 1), unknown) == 0);
     HOLDS(strcmp(relay_text(UINT32_MAX), unknown) == 0);
 }
 
@@ -150,12 +150,97 @@ static uint32_t tried(uint32_t n, uint32_t k, const uint32_t *matrix, size_t ent
 
 static void leaders(void)
 {
-    const uint32_t seven[4] = {0x0B, 0x16, 0x27, 0x45}, five[2] = {0x1D, 0x16}, ones = 0x1FFF, first = 1, both = 3;
+    const uint32_t five[2] = {0x1D, 0x16}, ones = 0x1FFF, first = 1, both = 3;
     HOLDS(tried(7, 4, seven, 8, 0x40) == 8 && tried(5, 2, five, 8, 0x0C) == 12 && tried(6, 3, rows, 9, 0x09) == 11);
     HOLDS(tried(2, 1, &both, 2, 0x01) == 2 && tried(2, 1, &first, RELAY_MAX_LEADERS, 0x02) == 3);
     HOLDS(tried(13, 1, &ones, RELAY_MAX_LEADERS, 0x1F80) == 4096);
     HOLDS(tried(13, 1, &ones, RELAY_MAX_LEADERS - 1, 0) == 1000 + RELAY_SHORT_WORK);
     HOLDS(tried(7, 4, seven, 7, 0) == 1000 + RELAY_SHORT_WORK && tried(14, 1, &ones, 9, 0) == 1000 + RELAY_OUT_OF_RANGE);
+}
+
+/* The bits of so many of the words are these digits, or the cause, with every byte as it was. The byte after them is kept. */
+static uint32_t interleaved(uint32_t n, size_t depth, size_t length, const char *digits)
+{
+    static uint8_t bits[RELAY_MAX_WORDS];
+    size_t value = 99;
+    memset(bits, 9, sizeof bits);
+    uint32_t number = relay_interleave(n, 4, seven, 4, words, depth, bits, length, &value);
+    HOLDS(bits[length] == 9 && (number == RELAY_DONE || length == 0 || (bits[0] == 9 && bits[length - 1] == 9)));
+    for (size_t b = 0; number == RELAY_DONE && b < length; b++)
+        HOLDS(bits[b] == digits[b] - '0');
+    return 100 * number + (uint32_t)value;
+}
+
+static void sending(void)
+{
+    memset(words, 0, sizeof words);
+    HOLDS(interleaved(7, 1, 7, "0000000") == RELAY_DONE);
+    HOLDS(interleaved(7, 0, 0, "") == 100 * RELAY_NO_DEPTH && interleaved(7, 17, 5, "") == 100 * RELAY_NO_DEPTH);
+    words[1] = 0x80;
+    HOLDS(interleaved(7, 2, 13, "") == 100 * RELAY_NO_BITS && interleaved(7, 2, 14, "") == 100 * RELAY_WORD_OUTSIDE + 1);
+    HOLDS(interleaved(7, 17, 119, "") == 100 * RELAY_NO_DEPTH && interleaved(17, 17, 5, "") == 100 * RELAY_OUT_OF_RANGE);
+    words[0] = 0x1D;
+    words[1] = 0x45;
+    words[2] = 0x7F;
+    HOLDS(interleaved(7, 3, 21, "111001111101101001011") == RELAY_DONE);
+}
+
+/* The number of either call on received bits, with lists of so many slots; on a refusal they are as they were. */
+static uint32_t sorted(size_t depth, const uint8_t *bits, size_t length, size_t slots)
+{
+    size_t value = 99;
+    memset(out, 0xA5, sizeof out);
+    uint32_t number = relay_deinterleave(7, 4, seven, 4, depth, bits, length, out, slots, &value);
+    HOLDS(value == 0 && out[number == RELAY_DONE ? depth : 0] == 0xA5A5A5A5);
+    return number;
+}
+
+static uint32_t mended(uint32_t radius, size_t depth, const uint8_t *bits, size_t length, size_t bytes, size_t entries)
+{
+    size_t value = 99;
+    memset(out, 0xA5, sizeof out);
+    memset(counts, 0xA5, sizeof counts);
+    memset(work, 0xA5, sizeof work);
+    uint32_t number =
+        relay_decode_interleaved(7, 4, seven, 4, radius, depth, bits, length, out, depth, counts, bytes, work, entries, &value);
+    size_t written = number == RELAY_DONE ? depth : 0;
+    HOLDS(value == 0 && out[written] == 0xA5A5A5A5 && counts[written] == 0xA5);
+    HOLDS(work[number == RELAY_DONE ? 8 : 0] == 0xA5A5A5A5);
+    return number;
+}
+
+static int gives(uint32_t first, int a, int b, int c)
+{
+    return out[0] == first && out[1] == 0x45 && out[2] == 0x7F && counts[0] == a && counts[1] == b && counts[2] == c;
+}
+
+/* The three words sent above, with changed bits: a burst of three comes back, two bits further apart hit word 0 twice. */
+static void bursts(void)
+{
+    uint8_t bits[22];
+    for (int b = 0; b < 22; b++)
+        bits[b] = "1110011111011010010110"[b] == '1';
+    HOLDS(sorted(3, bits, 21, 4) == RELAY_DONE && out[0] == 0x1D && out[1] == 0x45 && out[2] == 0x7F);
+    for (int b = 10; b <= 12; b++)
+        bits[b] ^= 1;
+    HOLDS(mended(1, 3, bits, 21, 3, 8) == RELAY_DONE && gives(0x1D, 1, 1, 1));
+    for (int b = 9; b <= 11; b++)
+        bits[b] ^= 1;
+    HOLDS(mended(1, 3, bits, 21, 3, 8) == RELAY_DONE && gives(0x45, 1, 0, 0));
+    bits[12] ^= 1;
+    HOLDS(mended(0, 3, bits, 21, 3, 8) == RELAY_DONE && gives(0x1D ^ 8, RELAY_FAR, 0, 0));
+    HOLDS(sorted(0, bits, 0, 3) == RELAY_NO_DEPTH && sorted(17, bits, 21, 0) == RELAY_NO_DEPTH);
+    HOLDS(sorted(SIZE_MAX, bits, 21, 3) == RELAY_NO_DEPTH);
+    HOLDS(sorted(3, bits, 20, 0) == RELAY_NO_BITS && sorted(3, bits, 22, 3) == RELAY_NO_BITS);
+    HOLDS(sorted(2, bits, 14, 1) == RELAY_SHORT_OUTPUT);
+    HOLDS(mended(2, 17, bits, 21, 0, 0) == RELAY_RADIUS_TOO_LARGE && mended(1, 17, bits, 21, 0, 0) == RELAY_NO_DEPTH);
+    HOLDS(mended(1, 2, bits, 15, 2, 8) == RELAY_NO_BITS && mended(1, 2, bits, 14, 1, 8) == RELAY_SHORT_OUTPUT);
+    HOLDS(mended(1, 2, bits, 14, 2, 7) == RELAY_SHORT_WORK);
+    bits[13] = 2;
+    HOLDS(sorted(2, bits, 14, 1) == RELAY_NO_BITS && mended(1, 2, bits, 14, 1, 7) == RELAY_NO_BITS);
+    HOLDS(sorted(1, bits, 7, 1) == RELAY_DONE);
+    memset(bits, 0, 13);
+    HOLDS(sorted(2, bits, 14, 2) == RELAY_NO_BITS && mended(1, 2, bits, 14, 2, 8) == RELAY_NO_BITS);
 }
 
 /* The check bits of data by their width, or the cause, with 0 in every other part. */
@@ -232,6 +317,8 @@ int main(void)
     readings();
     lightest();
     leaders();
+    sending();
+    bursts();
     widths();
     sizes();
     return failed;

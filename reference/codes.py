@@ -199,13 +199,30 @@ def work_cause(n, k, slots):
     return (9, 0) if slots < 2 ** (n - k) else None
 
 
-def list_cause(words, places, slots):
-    if len(words) > 512:
-        return 6, 0
+def places_cause(words, places):
     for i, w in enumerate(words):
         if w >= 2 ** places:
             return 7, i
-    return (8, 0) if slots < len(words) else None
+    return None
+
+
+def room_cause(results, slots):
+    return (8, 0) if slots < results else None
+
+
+def list_cause(words, places, slots):
+    if len(words) > 512:
+        return 6, 0
+    return places_cause(words, places) or room_cause(len(words), slots)
+
+
+def depth_cause(depth):
+    return None if 1 <= depth <= 16 else (16, 0)
+
+
+def bits_cause(n, depth, bits, received):
+    """17: another length than depth times n or, when received, a byte above 1."""
+    return (17, 0) if len(bits) != depth * n or received and any(b > 1 for b in bits) else None
 
 
 # ---- the operations on lists: the cause, or None and the lent lists are written
@@ -253,3 +270,41 @@ def decode(n, k, rows, radius, words, out, counts, work):
         else:
             out[i], counts[i] = w ^ e, weight(e)
     return None
+
+
+# ---- 02, No. 5: with depth L, place j of word i travels as bit number L * j + i
+def travelling(n, words):
+    """The bits by their numbers."""
+    bits = {len(words) * j + i: w >> j & 1 for i, w in enumerate(words) for j in range(n)}
+    assert sorted(bits) == list(range(len(words) * n))
+    return [bits[b] for b in range(len(bits))]
+
+
+def sorted_back(n, depth, bits):
+    """The words by their places."""
+    return [sum(bits[depth * j + i] << j for j in range(n)) for i in range(depth)]
+
+
+def interleave(n, k, rows, words, bits):
+    """The depth is the length of the list of words; what the bits held before is not looked at."""
+    depth = len(words)
+    cause = matrix_cause(n, k, rows) or depth_cause(depth) or bits_cause(n, depth, bits, False) or places_cause(words, n)
+    if cause is None:
+        bits[:] = travelling(n, words)
+    return cause
+
+
+def deinterleave(n, k, rows, depth, bits, out):
+    cause = matrix_cause(n, k, rows) or depth_cause(depth) or bits_cause(n, depth, bits, True) or room_cause(depth, len(out))
+    if cause is None:
+        out[:depth] = sorted_back(n, depth, bits)
+    return cause
+
+
+def decode_interleaved(n, k, rows, radius, depth, bits, out, counts, work):
+    """Decode within the radius of the words sorted back: of its causes 6 and 7 never arise."""
+    cause = matrix_cause(n, k, rows) or radius_cause(rows, radius) or depth_cause(depth) or bits_cause(n, depth, bits, True)
+    if cause is None:
+        cause = decode(n, k, rows, radius, sorted_back(n, depth, bits), out, counts, work)
+        assert cause in (None, (8, 0), (9, 0))
+    return cause

@@ -1,6 +1,6 @@
 """The records of crates/vectors and what the program prints for each, by the definitions of codes.py."""
-from codes import (check_rows, codewords, decode, dmin, encode, leaders_of, lightest, matrix_cause, message, reduced, row_sum, syndrome,
-                   tried, weight_counts)
+from codes import (check_rows, codewords, decode, decode_interleaved, deinterleave, dmin, encode, interleave, leaders_of, lightest,
+                   matrix_cause, message, reduced, row_sum, syndrome, tried, weight_counts)
 
 MARKS = 777, 77, 7777             # what each slot holds that is lent: of a list of words, of counts, of a working list
 NEAREST = None                    # a reading is that or a radius
@@ -29,7 +29,8 @@ OPERATIONS = {'sum': 1, 'weight': 2, 'distance': 3, 'parity': 4, 'place': 5, 'se
               'encode': 20, 'message': 21, 'nearest': 22, 'within': 23, 'again': 24,
               'Golay encode': 30, 'Golay decode': 31, 'Golay message': 32, 'Golay messages': 33, 'Golay patterns': 34,
               '(72,64) encode': 40, '(72,64) decode': 41, '(72,64) counts': 42, '(72,64) changes': 43,
-              'width encode': 50, 'width decode': 51, 'width counts': 52, 'width changes': 53}
+              'width encode': 50, 'width decode': 51, 'width counts': 52, 'width changes': 53,
+              'interleave': 60, 'deinterleave': 61, 'interleaved': 62, 'bursts': 63}
 
 
 def record(name, n, k, x, rows, rest, printed):
@@ -174,3 +175,54 @@ def again(n, k, rows, words, *sizes):
     lent = lists(*sizes)
     assert decode(n, k, words, NEAREST, rows, *lent) is None
     decode_record('again', n, k, rows, 0, words, lent, decode(n, k, rows, NEAREST, words, *lent))
+
+
+# ---- operations on interleaved bits
+def interleaved(n, k, rows, words, slots):
+    """A bit list is lent like a list of counts."""
+    bits = [MARKS[1]] * slots
+    c = interleave(n, k, rows, words, bits)
+    assert c is None or bits == [MARKS[1]] * slots
+    record('interleave', n, k, 0, rows, (len(words), *words, slots), said(c) + listed(bits, MARKS[1]))
+    return bits
+
+
+def deinterleaved(n, k, rows, depth, bits, slots):
+    out = [MARKS[0]] * slots
+    c = deinterleave(n, k, rows, depth, bits, out)
+    assert c is None or out == [MARKS[0]] * slots
+    record('deinterleave', n, k, depth, rows, (len(bits), *bits, slots), said(c) + listed(out, MARKS[0]))
+    return out
+
+
+def bits_decoded(n, k, rows, radius, depth, bits, *sizes):
+    lent, before = lists(*sizes), lists(*sizes)
+    c = decode_interleaved(n, k, rows, radius, depth, bits, *lent)
+    assert c is None or lent == before
+    record('interleaved', n, k, radius, rows, (depth, len(bits), *bits, *sizes), said(c) + ''.join(map(listed, lent, MARKS)))
+    return lent[0], lent[1]
+
+
+def changed_bits(bits, changed):
+    """Those with these numbers are changed."""
+    return [1 - bit if b in changed else bit for b, bit in enumerate(bits)]
+
+
+def mended(n, k, rows, radius, sent, changed):
+    """Whether every word comes back from the bits with these ones changed, with the number of its changed places as its count."""
+    depth = len(sent)
+    bits, (out, counts, work) = [MARKS[1]] * (depth * n), lists(depth, depth, 2**(n - k))
+    assert interleave(n, k, rows, sent, bits) is None
+    assert decode_interleaved(n, k, rows, radius, depth, changed_bits(bits, changed), out, counts, work) is None
+    return out == list(sent) and counts == [sum(depth * j + i in changed for j in range(n)) for i in range(depth)]
+
+
+def bursts(n, k, rows, radius, sent, every):
+    """In each window of depth times radius bits every pattern, or all ones: how many there are, and how many are mended, which is all."""
+    width = len(sent) * radius
+    patterns = range(2**width) if every else [2**width - 1]
+    cases = [mended(n, k, rows, radius, sent, {first + t for t in range(width) if bit(pattern, t)})
+             for first in range(len(sent) * n - width + 1) for pattern in patterns]
+    assert all(cases)
+    record('bursts', n, k, radius, rows, (len(sent), *sent, int(every)), items([len(cases), sum(cases)]))
+    return len(cases)

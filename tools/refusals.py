@@ -40,6 +40,10 @@ CAUSES = {
               'Give the number of data bits of the code: 16, 32 or 64.'),
     15: Cause('the data or check bits go beyond those of the width', NOTHING,
               'Compare the word with the width: 16 data bits have 6 check bits, 32 have 7, 64 have 8.'),
+    16: Cause('the depth is out of range: it is 1 to 16', NOTHING,
+              'Send 1 to 16 words at a time, and sort back by the same number.'),
+    17: Cause('the bits are not depth times n bytes or, when received, have one above 1', NOTHING,
+              'Count the bytes, and compare depth and n with those that were sent by; each byte is one bit, 0 or 1.'),
 }
 
 

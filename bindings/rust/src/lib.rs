@@ -53,7 +53,7 @@ use outcome::front;
 
 /// The version of the library that this crate is written for: 10,000 times the major number, 100 times the minor one, and the
 /// patch.
-pub const VERSION: u32 = 700;
+pub const VERSION: u32 = 800;
 
 /// The most places of a word, n.
 pub const MAX_PLACES: u32 = 28;
@@ -70,6 +70,9 @@ pub const WEIGHTS: usize = 33;
 /// The most words of one call.
 pub const MAX_WORDS: usize = 512;
 
+/// The most words that are sent interleaved.
+pub const MAX_DEPTH: usize = 16;
+
 /// The most entries that a working list needs, 2^(n - k).
 pub const MAX_LEADERS: usize = 4096;
 
@@ -79,7 +82,7 @@ pub const MAX_SHEET: usize = 4096;
 /// The bytes that [`run`] needs room for.
 pub const MAX_OUTPUT: usize = 20480;
 
-/// The count of a word that is far, in the lists of [`decode`] and in [`raw`].
+/// The count of a word that is far, in the lists of [`decode`] and [`decode_interleaved`] and in [`raw`].
 pub const FAR: u8 = 255;
 
 /// How received words are read.
@@ -122,7 +125,7 @@ pub struct Leaders<'a> {
     pub tried: u32,
 }
 
-/// The lists that [`decode`] writes.
+/// The lists that [`decode`] and [`decode_interleaved`] write.
 #[derive(Debug)]
 pub struct Lent<'a> {
     /// A slot for each word: its codeword, or the received word where that is far.
@@ -131,6 +134,13 @@ pub struct Lent<'a> {
     pub counts: &'a mut [u8],
     /// 2^(n - k) entries, [`MAX_LEADERS`] for any code: the coset leaders, by syndrome.
     pub work: &'a mut [u32],
+}
+
+impl<'a> Lent<'a> {
+    /// The outcomes of so many words over the lists of an accepted call.
+    fn decoded(self, words: usize, n: u32, k: u32) -> Decoded<'a> {
+        Decoded::over(front(self.codewords, words), front(self.counts, words), front(self.work, syndromes(n, k)))
+    }
 }
 
 /// A word of the (72,64) code, or of the codes of 16 and 32 data bits beside it, (22,16) and (39,32).
@@ -236,7 +246,88 @@ pub fn decode<'a>(n: u32, k: u32, rows: &[u32], reading: Reading, words: &[u32],
             value,
         )
     })?;
-    Ok(Decoded::over(front(lent.codewords, words.len()), front(lent.counts, words.len()), front(lent.work, syndromes(n, k))))
+    Ok(lent.decoded(words.len(), n, k))
+}
+
+/// Interleaves words of n places, one byte a bit: place j of word i becomes bit number L * j + i, where the depth L is the number of
+/// words. Causes 1 to 4, 16, 17 where `bits` has another length than L * n, and 7. Every byte is written, and on a refusal none.
+pub fn interleave(n: u32, k: u32, rows: &[u32], words: &[u32], bits: &mut [u8]) -> Result<(), Refusal> {
+    told(|value| unsafe {
+        raw::relay_interleave(n, k, rows.as_ptr(), rows.len(), words.as_ptr(), words.len(), bits.as_mut_ptr(), bits.len(), value)
+    })
+}
+
+/// Deinterleaves: writes word i of as many as the depth says, its place j being bit number depth * j + i, to slot i. Causes 1 to 4,
+/// 16, 17 where `bits` has another length than depth * n or a byte above 1, and 8. Later slots, and on a refusal all, keep their
+/// values.
+pub fn deinterleave(n: u32, k: u32, rows: &[u32], depth: usize, bits: &[u8], out: &mut [u32]) -> Result<(), Refusal> {
+    told(|value| unsafe {
+        raw::relay_deinterleave(
+            n,
+            k,
+            rows.as_ptr(),
+            rows.len(),
+            depth,
+            bits.as_ptr(),
+            bits.len(),
+            out.as_mut_ptr(),
+            out.len(),
+            value,
+        )
+    })
+}
+
+/// Deinterleaves received bits, as [`deinterleave`], and decodes the words within the radius, as [`decode`]. Causes 1 to 5, 16, 17,
+/// 8 and 9. Later slots, and on a refusal all, keep their values.
+///
+/// Where codewords were sent and the changed bits fit in depth * radius consecutive places of the list, wherever these begin, every
+/// word comes back.
+///
+/// ```
+/// use relaymarten::{decode_interleaved, interleave, Lent, Outcome, Refusal};
+///
+/// let rows = [0b0001011, 0b0010110, 0b0100111, 0b1000101];
+/// let sent = [0b0011101, 0b1000101, 0b1111111];
+/// let mut bits = [0; 3 * 7];
+/// interleave(7, 4, &rows, &sent, &mut bits)?;
+///
+/// // a burst of three bits, one of each word
+/// bits[10..13].iter_mut().for_each(|bit| *bit ^= 1);
+/// let (mut words, mut counts, mut work) = ([0; 3], [0; 3], [0; 8]);
+/// let lent = Lent { codewords: &mut words, counts: &mut counts, work: &mut work };
+/// let outcomes = decode_interleaved(7, 4, &rows, 1, 3, &bits, lent)?;
+/// assert!(outcomes.into_iter().eq(sent.map(|word| Outcome::Mended(word, 1))));
+/// # Ok::<(), Refusal>(())
+/// ```
+pub fn decode_interleaved<'a>(
+    n: u32,
+    k: u32,
+    rows: &[u32],
+    radius: u32,
+    depth: usize,
+    bits: &[u8],
+    lent: Lent<'a>,
+) -> Result<Decoded<'a>, Refusal> {
+    told(|value| unsafe {
+        raw::relay_decode_interleaved(
+            n,
+            k,
+            rows.as_ptr(),
+            rows.len(),
+            radius,
+            depth,
+            bits.as_ptr(),
+            bits.len(),
+            lent.codewords.as_mut_ptr(),
+            lent.codewords.len(),
+            lent.counts.as_mut_ptr(),
+            lent.counts.len(),
+            lent.work.as_mut_ptr(),
+            lent.work.len(),
+            value,
+        )
+    })?;
+    Ok(lent.decoded(depth, n, k))
 }
 
 /// How many syndromes an accepted matrix has.

@@ -47,7 +47,8 @@ pub(crate) fn front<T>(list: &[T], length: usize) -> &[T] {
     list.get(..length).unwrap_or(list)
 }
 
-/// A decoded batch: the outcome of each word, in order, over the lists that were lent to [`decode`](crate::decode).
+/// A decoded batch: the outcome of each word, in order, over the lists that were lent to [`decode`](crate::decode) or
+/// [`decode_interleaved`](crate::decode_interleaved).
 #[derive(Clone, Copy, Debug)]
 #[must_use = "a far word's slot in the lists is no answer: take the outcomes"]
 pub struct Decoded<'a> {

@@ -28,6 +28,18 @@ extern "C" {
         n: u32, k: u32, rows: *const u32, rows_len: usize, within: u32, radius: u32, words: *const u32, words_len: usize,
         out: *mut u32, out_len: usize, counts: *mut u8, counts_len: usize, work: *mut u32, work_len: usize, value: *mut usize,
     ) -> u32;
+    pub fn relay_interleave(
+        n: u32, k: u32, rows: *const u32, rows_len: usize, words: *const u32, words_len: usize,
+        bits: *mut u8, bits_len: usize, value: *mut usize,
+    ) -> u32;
+    pub fn relay_deinterleave(
+        n: u32, k: u32, rows: *const u32, rows_len: usize, depth: usize, bits: *const u8, bits_len: usize,
+        out: *mut u32, out_len: usize, value: *mut usize,
+    ) -> u32;
+    pub fn relay_decode_interleaved(
+        n: u32, k: u32, rows: *const u32, rows_len: usize, radius: u32, depth: usize, bits: *const u8, bits_len: usize,
+        out: *mut u32, out_len: usize, counts: *mut u8, counts_len: usize, work: *mut u32, work_len: usize, value: *mut usize,
+    ) -> u32;
     pub fn relay_golay_encode(message: u32, word: *mut u32, value: *mut usize) -> u32;
     pub fn relay_golay_decode(received: u32, word: *mut u32, count: *mut u8, value: *mut usize) -> u32;
     pub fn relay_golay_message(codeword: u32, message: *mut u32, value: *mut usize) -> u32;

@@ -34,6 +34,10 @@ pub enum Refusal {
     NoWidth,
     /// 15: the data or the check bits go beyond those of the width.
     BeyondWidth,
+    /// 16: the depth is not 1 to [`MAX_DEPTH`](crate::MAX_DEPTH).
+    NoDepth,
+    /// 17: the list of bits is not depth times n long or, when received, has a byte above 1.
+    NoBits,
     /// A number, with the value beside it, that this version does not know. It is proved that none arises.
     Other(u32, usize),
 }
@@ -55,6 +59,8 @@ impl Refusal {
             (13, byte) => Refusal::SheetTag(byte),
             (14, 0) => Refusal::NoWidth,
             (15, 0) => Refusal::BeyondWidth,
+            (16, 0) => Refusal::NoDepth,
+            (17, 0) => Refusal::NoBits,
             _ => Refusal::Other(number, value),
         }
     }
@@ -76,6 +82,8 @@ impl Refusal {
             Refusal::SheetTag(_) => 13,
             Refusal::NoWidth => 14,
             Refusal::BeyondWidth => 15,
+            Refusal::NoDepth => 16,
+            Refusal::NoBits => 17,
             Refusal::Other(number, _) => number,
         }
     }
@@ -97,7 +105,9 @@ impl Refusal {
             | Refusal::ShortOutput
             | Refusal::ShortWork
             | Refusal::NoWidth
-            | Refusal::BeyondWidth => 0,
+            | Refusal::BeyondWidth
+            | Refusal::NoDepth
+            | Refusal::NoBits => 0,
         }
     }
 }
@@ -124,6 +134,8 @@ impl fmt::Display for Refusal {
             }
             Refusal::NoWidth => write!(f, "the width is none of 16, 32 and 64"),
             Refusal::BeyondWidth => write!(f, "the data or check bits go beyond those of the width"),
+            Refusal::NoDepth => write!(f, "the depth is out of range: it is 1 to 16"),
+            Refusal::NoBits => write!(f, "the bits are not depth times n bytes or, when received, have one above 1"),
             Refusal::Other(number, value) => write!(f, "cause {number} with value {value}"),
         }
     }

@@ -9,6 +9,7 @@ pub mod MachineLaws  -- shifts and masks as the code writes them
 pub mod MatrixLaws  -- sums of rows, codewords
 pub mod LinearLaws  -- a linear map by its columns
 pub mod CheckLaws  -- check rows and syndromes of any rows
+pub mod JoinedLaws  -- digits joined into a word
 pub mod PivotLaws  -- reduced rows by place
 pub mod ReduceLaws  -- the reduction keeps shape and span
 pub mod DependLaws  -- dependent and independent rows
@@ -30,6 +31,7 @@ pub mod RadiusLaws  -- demand 3 from the metric
 pub mod BuildLaws  -- the list that words fill
 pub mod OrderedLaws  -- the order as a list
 pub mod TriesLaws  -- how many words are tried
+pub mod InterleavingLaws  -- interleaved words and bursts
 pub mod SystematicLaws  -- a matrix [P | I]
 pub mod ColumnLaws  -- codes given by columns
 pub mod ColumnTestLaws  -- one computed test of columns

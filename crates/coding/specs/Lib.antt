@@ -10,6 +10,7 @@ pub mod Leader  -- coset leaders
 pub mod Order  -- words by weight and number, and the list they fill
 pub mod Tries  -- how many of them are tried, and the place of the last leader
 pub mod Radius  -- demand 3
+pub mod Interleaving  -- interleaved words and bursts
 pub mod Systematic  -- a matrix [P | I]
 pub mod Columns  -- codes given by columns
 pub mod Inner  -- for private functions

@@ -6,26 +6,27 @@ use Prim.Native.Nat.{ℕ, _+_, _-_, _*_, _/_, _^_, _≤_, _<_, min}
 use native.Mathlib.Omega.{arith}
 use lib.Dec.{eqb, leb}
 use lib.ListN.{length}
-use borrow.Author.Tests.{leb-true, le-leb, lt-leb}
-use Rattle.coding.proofs.DependLaws.{firstDependent}
+use borrow.Author.Tests.{leb-true, le-leb, lt-leb, eq-eqb}
+use Rattle.coding.specs.Matrix.{Inside}
 use Rattle.coding.specs.Weight.{dmin}
-use Rattle.words.specs.Limits.{maxWords, inRange}
-use Rattle.words.specs.Refusal.{numberOf, unless, andThen, ifDone}
-use Rattle.words.specs.Shape.{firstOutside, shapeAnswer}
+use Rattle.words.specs.Limits.{maxWords}
+use Rattle.words.specs.Refusal.{numberOf, andThen, ifDone}
+use Rattle.words.specs.Shape.{firstOutside}
 use Rattle.words.specs.Accepted.{matrixAnswer, Accepted}
-use Rattle.words.proofs.AcceptedLaws.{accepted-in}
-use Rattle.words.specs.Lists.{listAnswer}
+use Rattle.words.proofs.AcceptedLaws.{accepted-in, matrix-numbered}
+use Rattle.words.specs.Lists.{manyAnswer, insideAnswer, roomAnswer, listAnswer}
 use Rattle.words.specs.declared.answer.Refusal.{Refusal}
-use Rattle.words.specs.declared.answer.Refusal.the-variants.{OutOfRange, RowCount, RowOutside, Dependent, RadiusTooLarge, TooManyWords, WordOutside, ShortOutput, ShortWork}
+use Rattle.words.specs.declared.answer.Refusal.the-variants.{RadiusTooLarge, TooManyWords, WordOutside, ShortOutput, ShortWork}
 use Rattle.words.specs.declared.answer.Answer.{Answer}
 use Rattle.words.specs.declared.answer.Answer.the-variants.{Done, Refused}
-use Rattle.words.proofs.AnswerLaws.{unless-done, andThen-done, andThen-assoc, stays, goes}
+use Rattle.words.proofs.AnswerLaws.{unless-done, andThen-done, andThen-assoc, stays, goes, Numbered, Between, unless-numbered, andThen-numbered, numbered-as}
+use Rattle.words.proofs.ShapeLaws.{inside-none}
 use Rattle.words.proofs.WordListLaws.{Listed, list-in}
 use Rattle.weights.specs.Description.{WeightsOf}
 use Rattle.weights.specs.declared.weights.Weights.{Weights}
 use Rattle.decoder.specs.Inner.Known.{asked, KnownOf}
 use Rattle.decoder.specs.declared.matrix.Known.{Known}
-use Rattle.decoder.specs.Causes.{radiusAnswer, listsAnswer, decodeAnswer}
+use Rattle.decoder.specs.Causes.{radiusAnswer, codeAnswer, listsAnswer, decodeAnswer}
 use Rattle.leaders.specs.Leaders.{workAnswer}
 use Rattle.outcomes.specs.declared.ending.Reading.{Reading}
 use Rattle.outcomes.specs.declared.ending.Reading.the-variants.{Nearest, Within}
@@ -67,24 +68,29 @@ no-dmin a c d e = rw e refl
 -- ---- the groups in order
 
 -- past the causes of the matrix it is accepted
-pub accepted-past : (n k : ℕ) (rows : List ℕ) (later : Answer) → andThen (matrixAnswer n k rows) later ≡ Done → Accepted n k rows
-accepted-past n k rows later e = accepted-in n k rows (andThen-done (matrixAnswer n k rows) later e .0)
+pub accepted-past : (n k : ℕ) (rows : List ℕ) (reading : Reading) (later : Answer) → andThen (codeAnswer n k rows reading) later ≡ Done → Accepted n k rows
+unfolding codeAnswer
+accepted-past n k rows reading later e =
+    accepted-in n k rows (andThen-done (matrixAnswer n k rows) _ (andThen-done (codeAnswer n k rows reading) later e .0) .0)
+
+module _ (n k : ℕ) (rows : List ℕ) (reading : Reading) where
+  -- the matrix refuses, or cause 5 decides
+  pub at-matrix : (c : Refusal) → matrixAnswer n k rows ≡ Refused c → matrixAnswer n k rows ≡ codeAnswer n k rows reading
+  unfolding codeAnswer
+  at-matrix c e = stays (matrixAnswer n k rows) _ c e
+
+  pub at-radius : matrixAnswer n k rows ≡ Done → radiusAnswer reading (dmin rows) ≡ codeAnswer n k rows reading
+  unfolding codeAnswer
+  at-radius e = goes (matrixAnswer n k rows) _ e
 
 module _ (n k : ℕ) (rows : List ℕ) (reading : Reading) (words : List ℕ) (slots bytes room : ℕ) where
-  -- causes 1 to 4
-  pub at-matrix : (c : Refusal) → matrixAnswer n k rows ≡ Refused c → Refused c ≡ decodeAnswer n k rows reading words slots bytes room
-  unfolding decodeAnswer
-  at-matrix c e = rw e refl
-
   -- causes 1 to 8
   abbrev firstEight : Answer
-  firstEight = andThen (matrixAnswer n k rows) (andThen (radiusAnswer reading (dmin rows)) (listAnswer words n (min slots bytes)))
+  firstEight = andThen (codeAnswer n k rows reading) (listAnswer words n (min slots bytes))
 
   eight-then-work : andThen firstEight (workAnswer room (2 ^ (n - k))) ≡ decodeAnswer n k rows reading words slots bytes room
   unfolding decodeAnswer listsAnswer
-  eight-then-work =
-      andThen-assoc (matrixAnswer n k rows) _ _
-      ∙ ap (andThen (matrixAnswer n k rows)) (andThen-assoc (radiusAnswer reading (dmin rows)) (listAnswer words n (min slots bytes)) _)
+  eight-then-work = andThen-assoc (codeAnswer n k rows reading) (listAnswer words n (min slots bytes)) _
 
   pub at-eight : (c : Refusal) → firstEight ≡ Refused c → Refused c ≡ decodeAnswer n k rows reading words slots bytes room
   at-eight c e = sym e ∙ stays firstEight (workAnswer room (2 ^ (n - k))) c e ∙ eight-then-work
@@ -101,10 +107,10 @@ module _ (n k : ℕ) (rows : List ℕ) (reading : Reading) (words : List ℕ) (s
     pub work : 2 ^ (n - k) ≤ room
 
   pub batch-in : decodeAnswer n k rows reading words slots bytes room ≡ Done → Passed
-  unfolding decodeAnswer listsAnswer
+  unfolding decodeAnswer codeAnswer listsAnswer
   batch-in e =
-      let (a, e1) = andThen-done (matrixAnswer n k rows) _ e in
-      let (b, e2) = andThen-done (radiusAnswer reading (dmin rows)) _ e1 in
+      let (d, e2) = andThen-done (codeAnswer n k rows reading) _ e in
+      let (a, b) = andThen-done (matrixAnswer n k rows) _ d in
       let (c, e3) = andThen-done (listAnswer words n (min slots bytes)) _ e2 in
       record {
         matrix = a;
@@ -113,40 +119,54 @@ module _ (n k : ℕ) (rows : List ℕ) (reading : Reading) (words : List ℕ) (s
         work = leb-true (2 ^ (n - k)) room (unless-done (leb (2 ^ (n - k)) room) ShortWork Done e3 .0);
       }
 
--- ---- each of these causes has a number from 1 to 9
+-- ---- the numbers of these causes
 
-abbrev OneToNine : Answer → Type 0
-OneToNine Done = Unit {0}
-OneToNine (Refused c) = (1 ≤ numberOf c) × (numberOf c ≤ 9)
+radius-numbered : (P : ℕ → Type 0) (reading : Reading) (d : ℕ) → P 5 → Numbered P (radiusAnswer reading d)
+radius-numbered P Nearest d h = tt
+radius-numbered P (Within r) d h = unless-numbered P (leb (2 * r + 1) d) RadiusTooLarge Done h tt
 
-unless-numbered : (b : Bool) (c : Refusal) (later : Answer) → (1 ≤ numberOf c) × (numberOf c ≤ 9) → OneToNine later → OneToNine (unless b c later)
-unless-numbered true c later h f = f
-unless-numbered false c later h f = h
+pub code-numbered : (n k : ℕ) (rows : List ℕ) (reading : Reading) → Numbered (Between 1 5) (codeAnswer n k rows reading)
+unfolding codeAnswer
+code-numbered n k rows reading =
+    andThen-numbered (Between 1 5) (matrixAnswer n k rows) _
+    (numbered-as (Between 1 5) (Between 1 4) (λ m h. (h .0, omega (arith, h))) (matrixAnswer n k rows) (matrix-numbered n k rows))
+    (radius-numbered (Between 1 5) reading (dmin rows) (omega arith, omega arith))
 
-andThen-numbered : (a later : Answer) → OneToNine a → OneToNine later → OneToNine (andThen a later)
-andThen-numbered Done later f g = g
-andThen-numbered (Refused c) later f g = f
+room-numbered : (P : ℕ → Type 0) (results slots : ℕ) → P 8 → Numbered P (roomAnswer results slots)
+room-numbered P results slots h = unless-numbered P (leb results slots) ShortOutput Done h tt
 
-radius-numbered : (reading : Reading) (d : ℕ) → OneToNine (radiusAnswer reading d)
-radius-numbered Nearest d = tt
-radius-numbered (Within r) d = unless-numbered (leb (2 * r + 1) d) RadiusTooLarge Done (omega arith, omega arith) tt
+work-numbered : (P : ℕ → Type 0) (room size : ℕ) → P 9 → Numbered P (workAnswer room size)
+work-numbered P room size h = unless-numbered P (leb size room) ShortWork Done h tt
+
+lists-numbered : (n k : ℕ) (words : List ℕ) (slots bytes room : ℕ) → Numbered (Between 6 9) (listsAnswer n k words slots bytes room)
+unfolding listsAnswer listAnswer
+lists-numbered n k words slots bytes room =
+    andThen-numbered (Between 6 9) (listAnswer words n (min slots bytes)) (workAnswer room (2 ^ (n - k)))
+    (andThen-numbered (Between 6 9) (manyAnswer words) _
+    (unless-numbered (Between 6 9) (leb (length words) maxWords) TooManyWords Done (omega arith, omega arith) tt)
+    (andThen-numbered (Between 6 9) (insideAnswer words n) _
+    (unless-numbered (Between 6 9) (eqb (firstOutside n words) (length words)) (WordOutside (firstOutside n words)) Done (omega arith, omega arith) tt)
+    (room-numbered (Between 6 9) (length words) (min slots bytes) (omega arith, omega arith))))
+    (work-numbered (Between 6 9) room (2 ^ (n - k)) (omega arith, omega arith))
+
+-- words that are few enough and have no other place pass 6 and 7
+pub lists-last : (n k : ℕ) (words : List ℕ) (slots bytes room : ℕ) → length words ≤ maxWords → Inside n words
+    → Numbered (Between 8 9) (listsAnswer n k words slots bytes room)
+unfolding listsAnswer listAnswer
+lists-last n k words slots bytes room few inside =
+    rw (le-leb (length words) maxWords few, eq-eqb (firstOutside n words) (length words) (inside-none n words inside))
+    (andThen-numbered (Between 8 9) (roomAnswer (length words) (min slots bytes)) (workAnswer room (2 ^ (n - k)))
+    (room-numbered (Between 8 9) (length words) (min slots bytes) (omega arith, omega arith))
+    (work-numbered (Between 8 9) room (2 ^ (n - k)) (omega arith, omega arith)))
 
 decode-numbered : (n k : ℕ) (rows : List ℕ) (reading : Reading) (words : List ℕ) (slots bytes room : ℕ)
-    → OneToNine (decodeAnswer n k rows reading words slots bytes room)
-unfolding decodeAnswer matrixAnswer shapeAnswer listsAnswer listAnswer
+    → Numbered (Between 1 9) (decodeAnswer n k rows reading words slots bytes room)
+unfolding decodeAnswer
 decode-numbered n k rows reading words slots bytes room =
-    andThen-numbered (matrixAnswer n k rows) _
-    (andThen-numbered (shapeAnswer n k rows) _
-    (unless-numbered (inRange n k) OutOfRange _ (omega arith, omega arith)
-    (unless-numbered (eqb (length rows) k) RowCount _ (omega arith, omega arith)
-    (unless-numbered (eqb (firstOutside n rows) (length rows)) (RowOutside (firstOutside n rows)) Done (omega arith, omega arith) tt)))
-    (unless-numbered (eqb (firstDependent rows) (length rows)) (Dependent (firstDependent rows)) Done (omega arith, omega arith) tt))
-    (andThen-numbered (radiusAnswer reading (dmin rows)) _ (radius-numbered reading (dmin rows))
-    (andThen-numbered (listAnswer words n (min slots bytes)) _
-    (unless-numbered (leb (length words) maxWords) TooManyWords _ (omega arith, omega arith)
-    (unless-numbered (eqb (firstOutside n words) (length words)) (WordOutside (firstOutside n words)) _ (omega arith, omega arith)
-    (unless-numbered (leb (length words) (min slots bytes)) ShortOutput Done (omega arith, omega arith) tt)))
-    (unless-numbered (leb (2 ^ (n - k)) room) ShortWork Done (omega arith, omega arith) tt)))
+    andThen-numbered (Between 1 9) (codeAnswer n k rows reading) _
+    (numbered-as (Between 1 9) (Between 1 5) (λ m h. (h .0, omega (arith, h))) (codeAnswer n k rows reading) (code-numbered n k rows reading))
+    (numbered-as (Between 1 9) (Between 6 9) (λ m h. (omega (arith, h), h .1)) (listsAnswer n k words slots bytes room)
+    (lists-numbered n k words slots bytes room))
 
 pub refused-number : (n k : ℕ) (rows : List ℕ) (reading : Reading) (words : List ℕ) (slots bytes room : ℕ) (c : Refusal)
     → decodeAnswer n k rows reading words slots bytes room ≡ Refused c → (1 ≤ numberOf c) × (numberOf c ≤ 9)

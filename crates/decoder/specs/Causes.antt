@@ -18,11 +18,14 @@ abbrev pub radiusAnswer : Reading → ℕ → Answer
 radiusAnswer Nearest d = Done
 radiusAnswer (Within r) d = unless (leb (2 * r + 1) d) RadiusTooLarge Done
 
+-- causes 1 to 5: what is asked of the matrix and of the reading
+unfoldable pub codeAnswer : ℕ → ℕ → List ℕ → Reading → Answer
+codeAnswer n k rows reading = andThen (matrixAnswer n k rows) (radiusAnswer reading (dmin rows))
+
 -- causes 6 to 9; both output lists are as long as the words
 unfoldable pub listsAnswer : ℕ → ℕ → List ℕ → ℕ → ℕ → ℕ → Answer
 listsAnswer n k words slots bytes room = andThen (listAnswer words n (min slots bytes)) (workAnswer room (2 ^ (n - k)))
 
 -- causes 1 to 9: all causes of Decode
 unfoldable pub decodeAnswer : ℕ → ℕ → List ℕ → Reading → List ℕ → ℕ → ℕ → ℕ → Answer
-decodeAnswer n k rows reading words slots bytes room =
-    andThen (matrixAnswer n k rows) (andThen (radiusAnswer reading (dmin rows)) (listsAnswer n k words slots bytes room))
+decodeAnswer n k rows reading words slots bytes room = andThen (codeAnswer n k rows reading) (listsAnswer n k words slots bytes room)

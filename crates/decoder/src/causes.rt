@@ -11,7 +11,7 @@ ghost use mathlib.Core.Path.{_≡_};
 ghost use Prim.Native.Nat.{ℕ, _≤_, min};
 ghost use Rattle.words.specs.Refusal.{andThen};
 ghost use Rattle.words.specs.Lists.{listAnswer};
-ghost use Rattle.decoder.specs.Causes.{radiusAnswer};
+ghost use Rattle.decoder.specs.Causes.{radiusAnswer, codeAnswer};
 ghost use Rattle.decoder.specs.Inner.Known.{PastOf};
 ghost use Rattle.outcomes.specs.declared.ending.Reading.the-variants.{Within};
 
@@ -29,26 +29,34 @@ fn radius_cause(reading: Reading, d: u32) -> Answer
     Answer::Done
 }
 
-// Causes 5 to 8, for lists of so many slots and bytes.
-fn middle_cause(
-    reading: Reading,
-    d: u32,
-    words: &[u32],
-    n: u32,
-    slots: usize,
-    bytes: usize,
-) -> Answer
-    requires { ⌜ ((ρ : ℕ) → reading ≡ Within ρ → 1 ≤ d) ⌝ }
-    ensures { λ r. ⌜ r ≡ andThen (radiusAnswer reading d) (listAnswer (now (words .entry)) n (min slots bytes)) ⌝ }
+// Causes 1 to 5, and past them what the matrix told.
+fn known_code(measure: bool, n: u32, k: u32, rows: &[u32], reading: Reading) -> Known
+    ensures { λ r. ⌜ PastOf measure n (now (rows .entry)) (codeAnswer n k (now (rows .entry)) reading) r ⌝ }
 {
-    let a = radius_cause(reading, d);
+    let c = known_of(n, k, rows, asks(reading, measure));
+    let a = c.answer;
     let Answer::Done = a else {
-        return a;
+        return c;
     };
-    list_cause(words, n, smaller(slots, bytes))
+    let d = c.dmin;
+    let answer = radius_cause(reading, d);
+    let checks = c.checks;
+    Known {
+        answer,
+        checks,
+        dmin: d,
+    }
 }
 
-// Causes 1 to 8, and past them what the matrix told.
+// Causes 1 to 5: what Decode asks of the matrix and of the reading.
+pub fn code_cause(n: u32, k: u32, rows: &[u32], reading: Reading) -> Answer
+    ensures { λ r. ⌜ r ≡ codeAnswer n k (now (rows .entry)) reading ⌝ }
+{
+    let c = known_code(false, n, k, rows, reading);
+    c.answer
+}
+
+// Causes 1 to 8, for lists of so many slots and bytes, and past them what the matrix told.
 pub(crate) fn known_past(
     measure: bool,
     n: u32,
@@ -59,19 +67,19 @@ pub(crate) fn known_past(
     slots: usize,
     bytes: usize,
 ) -> Known
-    ensures { λ r. ⌜ PastOf measure n k (now (rows .entry)) reading (now (words .entry)) slots bytes r ⌝ }
+    ensures { λ r. ⌜ PastOf measure n (now (rows .entry))
+        (andThen (codeAnswer n k (now (rows .entry)) reading) (listAnswer (now (words .entry)) n (min slots bytes))) r ⌝ }
 {
-    let c = known_of(n, k, rows, asks(reading, measure));
+    let c = known_code(measure, n, k, rows, reading);
     let a = c.answer;
     let Answer::Done = a else {
         return c;
     };
-    let d = c.dmin;
-    let b = middle_cause(reading, d, words, n, slots, bytes);
+    let answer = list_cause(words, n, smaller(slots, bytes));
     let checks = c.checks;
     Known {
-        answer: b,
+        answer,
         checks,
-        dmin: d,
+        dmin: c.dmin,
     }
 }

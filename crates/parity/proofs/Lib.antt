@@ -1,4 +1,3 @@
-mod JoinedLaws  -- digits joined into a word
 mod CheckPackLaws  -- check rows read off a table
 pub mod ParityLaws  -- the check rows are those of the definition
 pub mod CodeOfLaws  -- what the code leaves known to a caller

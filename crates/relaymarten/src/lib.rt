@@ -4,6 +4,7 @@ pub mod codes; // any generator matrix: Describe, the leaders, Encode, Decode, M
 pub mod golay_words; // the extended Golay code
 pub mod hsiao_widths; // the codes of 16, 32 and 64 data bits
 pub mod hsiao_words; // the (72,64) code
+pub mod interleaved_words; // interleaving against bursts
 pub mod sheets; // the run over a code sheet
 pub mod told; // an answer as a number and a value
 pub mod version; // the version of the interface

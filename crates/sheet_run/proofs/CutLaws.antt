@@ -9,11 +9,9 @@ use native.Mathlib.Omega.{arith}
 use borrow.Author.Tests.{ne-eqb, lt-leb}
 use lib.ListN.{length, take}
 use lib.Seq.{take-all, length-take-le}
-use Rattle.coding.specs.Weight.{dmin}
 use Rattle.words.specs.Limits.{inRange, maxRows, maxWords, maxChecks}
 use Rattle.words.specs.Refusal.{unless, andThen}
 use Rattle.words.specs.Shape.{shapeAnswer}
-use Rattle.words.specs.Accepted.{matrixAnswer}
 use Rattle.words.specs.Lists.{listAnswer}
 use Rattle.words.specs.declared.answer.Refusal.{Refusal}
 use Rattle.words.specs.declared.answer.Refusal.the-variants.{OutOfRange, RowCount, TooManyWords}
@@ -21,7 +19,7 @@ use Rattle.words.specs.declared.answer.Answer.{Answer}
 use Rattle.words.specs.declared.answer.Answer.the-variants.{Done, Refused}
 use Rattle.words.proofs.ShapeLaws.{range-in}
 use Rattle.words.proofs.AcceptedLaws.{shape-refused}
-use Rattle.decoder.specs.Causes.{radiusAnswer, listsAnswer, decodeAnswer}
+use Rattle.decoder.specs.Causes.{codeAnswer, listsAnswer, decodeAnswer}
 use Rattle.outcomes.specs.declared.ending.Reading.{Reading}
 use Rattle.decoder.proofs.CauseLaws.{at-matrix}
 use Rattle.sheet_run.specs.Output.{linesOf, batchOutput}
@@ -46,11 +44,14 @@ module _ (n k : ℕ) (reading : Reading) where
   -- many rows
   many-rows : (rows words : List ℕ) (c : Refusal) → maxRows < length rows → unless (inRange n k) OutOfRange (Refused RowCount) ≡ Refused c
       → decodes rows words ≡ Refused c
-  many-rows rows words c h e = sym (at-matrix n k rows reading words maxWords maxWords (2 ^ maxChecks) c (shape-refused n k rows c (shapes n k rows h ∙ e)))
+  unfolding decodeAnswer
+  many-rows rows words c h e =
+      let m = shape-refused n k rows c (shapes n k rows h ∙ e) in
+      rw (sym (at-matrix n k rows reading c m) ∙ m) refl
 
   -- many words: the causes before, or cause 6
   abbrev before-words : List ℕ → Answer
-  before-words rows = andThen (matrixAnswer n k rows) (andThen (radiusAnswer reading (dmin rows)) (Refused TooManyWords))
+  before-words rows = andThen (codeAnswer n k rows reading) (Refused TooManyWords)
 
   many-words : (rows words : List ℕ) → maxWords < length words → decodes rows words ≡ before-words rows
   unfolding decodeAnswer listsAnswer listAnswer
@@ -61,10 +62,7 @@ module _ (n k : ℕ) (reading : Reading) where
   refuses (Refused d) c = (d, refl)
 
   before-refused : (rows : List ℕ) → (d : Refusal) × (before-words rows ≡ Refused d)
-  before-refused rows =
-      let (c, e) = refuses (radiusAnswer reading (dmin rows)) TooManyWords in
-      let (d, g) = refuses (matrixAnswer n k rows) c in
-      (d, ap (andThen (matrixAnswer n k rows)) e ∙ g)
+  before-refused rows = refuses (codeAnswer n k rows reading) TooManyWords
 
   same-output : (rows words rows′ words′ : List ℕ) (c : Refusal) → decodes rows words ≡ Refused c → decodes rows′ words′ ≡ Refused c
       → batchOutput n k rows reading words ≡ batchOutput n k rows′ reading words′

@@ -3,3 +3,4 @@ pub mod Sheets  -- the value of the table of sheets
 pub mod LightestCodewords  -- the value of the table of lightest codewords
 pub mod HsiaoWidths  -- the value of the table of widths
 pub mod LastLeaders  -- the value of the table of last leaders
+pub mod Bursts  -- the value of the table of bursts

@@ -7,7 +7,7 @@ use Rattle.coding.specs.Weight.{dmin}
 use Rattle.words.specs.Shape.{shapeAnswer}
 use Rattle.words.specs.Accepted.{matrixAnswer}
 use Rattle.words.specs.Lists.{listAnswer}
-use Rattle.decoder.specs.Causes.{listsAnswer, decodeAnswer}
+use Rattle.decoder.specs.Causes.{codeAnswer, listsAnswer, decodeAnswer}
 use Rattle.sheet.specs.Field.{contentOf, fieldAt}
 use Rattle.sheet.specs.Sheet.{sheetFrom, sheetOf}
 use Rattle.sheet.specs.Words.{wordAt, wordsAt}
@@ -17,6 +17,6 @@ use Rattle.sheet_run.specs.Output.{refusedLine, codeLine, digitsOf, wordLine, w
 use Rattle.starred.specs.Sheets.{Sheets}
 
 pub sheets : Sheets
-unfolding ones trailingZeros parity messageOf dmin shapeAnswer matrixAnswer listAnswer listsAnswer decodeAnswer contentOf fieldAt sheetFrom
+unfolding ones trailingZeros parity messageOf dmin shapeAnswer matrixAnswer listAnswer codeAnswer listsAnswer decodeAnswer contentOf fieldAt sheetFrom
     sheetOf wordAt wordsAt decimal tallyOf closingLine refusedLine codeLine digitsOf wordLine wordLines batchOutput outputOf
 sheets = record { nearest = refl; within = refl; refused = refl; no-words = refl; empty = refl }

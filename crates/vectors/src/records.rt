@@ -3,6 +3,7 @@
 use crate::batch_calls;
 use crate::golay_calls;
 use crate::hsiao_calls;
+use crate::interleaved_calls;
 use crate::matrix_calls;
 use crate::number_calls;
 use crate::print;
@@ -57,6 +58,27 @@ pub(crate) fn list(buffer: &mut [u32]) -> usize
     size
 }
 
+// A number of one byte.
+fn small() -> u8 {
+    (number() % 256) as u8
+}
+
+// A list of such numbers, in the same way.
+pub(crate) fn bytes(buffer: &mut [u8]) -> usize
+    ensures { λ r. ⌜ Counts r (now (buffer .exit)) ⌝ }
+{
+    let size = number() as usize;
+    if buffer.len() < size {
+        return 0;
+    }
+    let mut i: usize = 0;
+    while i < size {
+        buffer[i] = small();
+        i += 1;
+    }
+    size
+}
+
 // How many slots of the list are lent.
 pub(crate) fn slots(list: &[u32]) -> usize
     ensures { λ r. ⌜ Counts r (now (list .entry)) ⌝ }
@@ -76,7 +98,8 @@ fn dispatch(operation: u8, n: u32, k: u32, x: u32, rows: &[u32]) {
         2 => batch_calls::call(operation, n, k, x, rows),
         3 => golay_calls::call(operation, n, k),
         4 => hsiao_calls::call(operation, n, k, x),
-        _ => width_calls::call(operation, n, k, x, rows),
+        5 => width_calls::call(operation, n, k, x, rows),
+        _ => interleaved_calls::call(operation, n, k, x, rows),
     }
 }
 

@@ -14,7 +14,7 @@ use Rattle.coding.proofs.SearchLaws.{first-le}
 use Rattle.words.specs.Limits.{inRange}
 use Rattle.words.specs.Refusal.{unless, andThen}
 use Rattle.words.specs.Shape.{firstOutside, shapeAnswer}
-use Rattle.words.proofs.AnswerLaws.{first-refused, first-passes, first-done, andThen-done}
+use Rattle.words.proofs.AnswerLaws.{first-refused, first-passes, first-done, andThen-done, Numbered, Between, unless-numbered, andThen-numbered}
 use Rattle.words.proofs.ShapeLaws.{shape-in, in-shape}
 use Rattle.words.specs.Accepted.{matrixAnswer, Accepted}
 use Rattle.words.specs.declared.answer.Refusal.{Refusal}
@@ -77,3 +77,13 @@ found-in n k rows i e = shape (inRange n k) (eqb (length rows) k) (eqb (firstOut
     shape true true false e = let z : _≡_ {A = ℕ} 0 1 = cc in absurd (omega arith)
     shape true false c e = let z : _≡_ {A = ℕ} 0 1 = cc in absurd (omega arith)
     shape false b c e = let z : _≡_ {A = ℕ} 0 1 = cc in absurd (omega arith)
+
+-- these causes have the numbers 1 to 4
+pub matrix-numbered : (n k : ℕ) (rows : List ℕ) → Numbered (Between 1 4) (matrixAnswer n k rows)
+unfolding matrixAnswer shapeAnswer
+matrix-numbered n k rows =
+    andThen-numbered (Between 1 4) (shapeAnswer n k rows) _
+    (unless-numbered (Between 1 4) (inRange n k) OutOfRange _ (omega arith, omega arith)
+    (unless-numbered (Between 1 4) (eqb (length rows) k) RowCount _ (omega arith, omega arith)
+    (unless-numbered (Between 1 4) (eqb (firstOutside n rows) (length rows)) (RowOutside (firstOutside n rows)) Done (omega arith, omega arith) tt)))
+    (unless-numbered (Between 1 4) (eqb (firstDependent rows) (length rows)) (Dependent (firstDependent rows)) Done (omega arith, omega arith) tt)

@@ -3,13 +3,13 @@ use mathlib.Core.Path.{_≡_, refl, ap, sym, _∙_}
 use mathlib.Core.Logic.{_≢_}
 use mathlib.Core.List.{List, _++_, map}
 use mathlib.Core.Bool.{Bool, true, false}
-use Prim.Native.Nat.{ℕ, _+_}
+use Prim.Native.Nat.{ℕ, _+_, _≤_}
 use native.Mathlib.Omega.{arith}
 use lib.Dec.{eqb}
 use lib.ListN.{length, drop, length-map}
 use borrow.Author.Tests.{eqb-true, eq-eqb, ne-eqb}
 use Rattle.coding.specs.Lists.{first}
-use Rattle.words.specs.Refusal.{unless, refuseFirst, andThen, onDone}
+use Rattle.words.specs.Refusal.{numberOf, unless, refuseFirst, andThen, onDone}
 use Rattle.words.specs.declared.answer.Refusal.{Refusal}
 use Rattle.words.specs.declared.answer.Answer.{Answer}
 use Rattle.words.specs.declared.answer.Answer.the-variants.{Done, Refused}
@@ -53,6 +53,32 @@ stays a later c e = rw e refl
 
 pub goes : (a later : Answer) → a ≡ Done → later ≡ andThen a later
 goes a later e = rw e refl
+
+-- ---- the number of every refusal has a property
+
+abbrev pub Numbered : (ℕ → Type 0) → Answer → Type 0
+Numbered P Done = Unit {0}
+Numbered P (Refused c) = P (numberOf c)
+
+-- such as to lie from a to b
+abbrev pub Between : ℕ → ℕ → ℕ → Type 0
+Between a b m = (a ≤ m) × (m ≤ b)
+
+module _ (P : ℕ → Type 0) where
+  pub unless-numbered : (b : Bool) (c : Refusal) (later : Answer) → P (numberOf c) → Numbered P later → Numbered P (unless b c later)
+  unless-numbered true c later h f = f
+  unless-numbered false c later h f = h
+
+  pub andThen-numbered : (a later : Answer) → Numbered P a → Numbered P later → Numbered P (andThen a later)
+  andThen-numbered Done later f g = g
+  andThen-numbered (Refused c) later f g = f
+
+  -- a weaker property has it too
+  pub numbered-as : (Q : ℕ → Type 0) → ((m : ℕ) → Q m → P m) → (a : Answer) → Numbered Q a → Numbered P a
+  numbered-as Q f Done h = tt
+  numbered-as Q f (Refused c) h = f (numberOf c) h
+
+-- ---- what an answer leaves in a lent list
 
 -- a refusal keeps the list
 pub kept : (r : Answer) (c : Refusal) → r ≡ Refused c → (new old : List ℕ) → old ≡ onDone r new old

@@ -8,13 +8,20 @@ use borrow.Author.Tests.{leb-true}
 use Rattle.coding.specs.Matrix.{Inside}
 use Rattle.words.specs.Limits.{maxWords}
 use Rattle.words.specs.Shape.{outside}
-use Rattle.words.specs.Lists.{listAnswer}
+use Rattle.words.specs.Lists.{manyAnswer, insideAnswer, roomAnswer, listAnswer}
 use Rattle.words.specs.declared.answer.Refusal.the-variants.{TooManyWords, WordOutside, ShortOutput}
 use Rattle.words.specs.declared.answer.Answer.the-variants.{Done}
-use Rattle.words.proofs.AnswerLaws.{unless-done, first-done}
+use Rattle.words.proofs.AnswerLaws.{unless-done, first-done, andThen-done}
 use Rattle.words.proofs.ShapeLaws.{outside-none}
 
--- what causes 6 to 8 leave known when they pass
+-- what 7 and 8 leave known when they pass
+pub inside-in : (words : List ℕ) (places : ℕ) → insideAnswer words places ≡ Done → Inside places words
+inside-in words places e = outside-none places words (first-done (outside places words) (length words) WordOutside Done e .0)
+
+pub room-in : (results slots : ℕ) → roomAnswer results slots ≡ Done → results ≤ slots
+room-in results slots e = leb-true results slots (unless-done (leb results slots) ShortOutput Done e .0)
+
+-- and causes 6 to 8
 pub record Listed (words : List ℕ) (places slots : ℕ) : Type 0 where
   pub few : length words ≤ maxWords
   pub inside : Inside places words
@@ -23,11 +30,10 @@ pub record Listed (words : List ℕ) (places slots : ℕ) : Type 0 where
 pub list-in : (words : List ℕ) (places slots : ℕ) → listAnswer words places slots ≡ Done → Listed words places slots
 unfolding listAnswer
 list-in words places slots e =
-    let e1 = unless-done (leb (length words) maxWords) TooManyWords _ e in
-    let e2 = first-done (outside places words) (length words) WordOutside _ (e1 .1) in
-    let e3 = unless-done (leb (length words) slots) ShortOutput Done (e2 .1) in
+    let (many, e1) = andThen-done (manyAnswer words) _ e in
+    let (inside, room) = andThen-done (insideAnswer words places) _ e1 in
     record {
-      few = leb-true (length words) maxWords (e1 .0);
-      inside = outside-none places words (e2 .0);
-      room = leb-true (length words) slots (e3 .0);
+      few = leb-true (length words) maxWords (unless-done (leb (length words) maxWords) TooManyWords Done many .0);
+      inside = inside-in words places inside;
+      room = room-in (length words) slots room;
     }

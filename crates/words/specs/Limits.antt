@@ -15,6 +15,10 @@ maxChecks = 12
 abbrev pub maxWords : ℕ
 maxWords = 512
 
+-- the most words that are sent interleaved (02, No. 5)
+abbrev pub maxDepth : ℕ
+maxDepth = 16
+
 -- the places of a machine word: a table by place has so many entries
 abbrev pub width : ℕ
 width = 32

@@ -1,4 +1,4 @@
--- 01, "Causes and numbers", and 02, No. 3: the number of each cause, the value beside it, and what a refusal leaves in a lent list.
+-- 01, "Causes and numbers", and 02, No. 3 and No. 5: the number of each cause, the value beside it, and what a refusal leaves in a lent list.
 use mathlib.Core.List.{List, _++_}
 use mathlib.Core.Bool.{Bool, true, false}
 use Prim.Native.Nat.{ℕ}
@@ -6,7 +6,7 @@ use lib.Dec.{eqb}
 use lib.ListN.{length, drop}
 use Rattle.coding.specs.Lists.{first}
 use Rattle.words.specs.declared.answer.Refusal.{Refusal}
-use Rattle.words.specs.declared.answer.Refusal.the-variants.{OutOfRange, RowCount, RowOutside, Dependent, RadiusTooLarge, TooManyWords, WordOutside, ShortOutput, ShortWork, NoCodeword, NoWidth, BeyondWidth}
+use Rattle.words.specs.declared.answer.Refusal.the-variants.{OutOfRange, RowCount, RowOutside, Dependent, RadiusTooLarge, TooManyWords, WordOutside, ShortOutput, ShortWork, NoCodeword, NoWidth, BeyondWidth, NoDepth, NoBits}
 use Rattle.words.specs.declared.answer.Answer.{Answer}
 use Rattle.words.specs.declared.answer.Answer.the-variants.{Done, Refused}
 
@@ -24,6 +24,8 @@ numberOf ShortWork = 9
 numberOf (NoCodeword i) = 10
 numberOf NoWidth = 14
 numberOf BeyondWidth = 15
+numberOf NoDepth = 16
+numberOf NoBits = 17
 
 abbrev pub valueOf : Refusal → ℕ
 valueOf OutOfRange = 0
@@ -38,6 +40,8 @@ valueOf ShortWork = 0
 valueOf (NoCodeword i) = i
 valueOf NoWidth = 0
 valueOf BeyondWidth = 0
+valueOf NoDepth = 0
+valueOf NoBits = 0
 
 -- the cause refuses where its test fails; otherwise the later causes decide
 abbrev pub unless : Bool → Refusal → Answer → Answer

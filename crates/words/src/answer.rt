@@ -16,6 +16,8 @@ pub enum Refusal {
     NoCodeword(usize),
     NoWidth,
     BeyondWidth,
+    NoDepth,
+    NoBits,
 }
 
 pub enum Answer {
@@ -40,6 +42,8 @@ pub fn number(r: Refusal) -> u32
         Refusal::NoCodeword(_) => 10,
         Refusal::NoWidth => 14,
         Refusal::BeyondWidth => 15,
+        Refusal::NoDepth => 16,
+        Refusal::NoBits => 17,
     }
 }
 
@@ -60,5 +64,7 @@ pub fn value(r: Refusal) -> usize
         Refusal::NoCodeword(i) => i,
         Refusal::NoWidth => 0,
         Refusal::BeyondWidth => 0,
+        Refusal::NoDepth => 0,
+        Refusal::NoBits => 0,
     }
 }

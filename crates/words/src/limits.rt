@@ -9,6 +9,9 @@ pub const MAX_CHECKS: usize = 12;
 
 pub const MAX_WORDS: usize = 512;
 
+// The most words that are sent interleaved.
+pub const MAX_DEPTH: usize = 16;
+
 // The places of a machine word.
 pub const WIDTH: usize = 32;
 

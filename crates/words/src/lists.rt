@@ -5,23 +5,52 @@ use crate::limits::MAX_WORDS;
 use crate::shape::first_outside;
 ghost use mathlib.Core.Path.{_≡_};
 ghost use Prim.Native.Nat.{min};
-ghost use Rattle.words.specs.Lists.{listAnswer};
+ghost use Rattle.words.specs.Lists.{manyAnswer, insideAnswer, roomAnswer, listAnswer};
 
-// For words of so many places and an output list of so many slots.
-pub fn list_cause(words: &[u32], places: u32, slots: usize) -> Answer
-    ensures { λ r. ⌜ r ≡ listAnswer (now (words .entry)) places slots ⌝ }
+// Cause 6: more than 512 words.
+fn many_cause(words: &[u32]) -> Answer
+    ensures { λ r. ⌜ r ≡ manyAnswer (now (words .entry)) ⌝ }
 {
     if MAX_WORDS < words.len() {
         return Answer::Refused(Refusal::TooManyWords);
     }
+    Answer::Done
+}
+
+// Cause 7: a word with a one outside so many places.
+pub fn inside_cause(words: &[u32], places: u32) -> Answer
+    ensures { λ r. ⌜ r ≡ insideAnswer (now (words .entry)) places ⌝ }
+{
     let bad = first_outside(words, places);
     if bad != words.len() {
         return Answer::Refused(Refusal::WordOutside(bad));
     }
-    if slots < words.len() {
+    Answer::Done
+}
+
+// Cause 8: fewer slots than results.
+pub fn room_cause(results: usize, slots: usize) -> Answer
+    ensures { λ r. ⌜ r ≡ roomAnswer results slots ⌝ }
+{
+    if slots < results {
         return Answer::Refused(Refusal::ShortOutput);
     }
     Answer::Done
+}
+
+// Causes 6 to 8, for words of so many places and an output list of so many slots.
+pub fn list_cause(words: &[u32], places: u32, slots: usize) -> Answer
+    ensures { λ r. ⌜ r ≡ listAnswer (now (words .entry)) places slots ⌝ }
+{
+    let a = many_cause(words);
+    let Answer::Done = a else {
+        return a;
+    };
+    let b = inside_cause(words, places);
+    let Answer::Done = b else {
+        return b;
+    };
+    room_cause(words.len(), slots)
 }
 
 // The smaller of two lengths.

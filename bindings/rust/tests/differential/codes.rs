@@ -6,7 +6,7 @@ use relaymarten::{raw, Lent, Outcome, Reading, Refusal, MAX_CHECKS, MAX_LEADERS,
 use std::collections::BTreeSet;
 
 /// Mostly short codes, so that many of them can be walked.
-fn longest(round: usize) -> u32 {
+pub fn longest(round: usize) -> u32 {
     if round % 5 == 0 {
         28
     } else {
@@ -218,7 +218,7 @@ struct Seen {
 }
 
 /// Each outcome of a batch, in order and by its place, is that of the slots; the leaders are the front of the working list.
-fn compare_outcomes(batch: relaymarten::Decoded, slots: &[(u32, u8)], leaders: &[u32]) {
+pub fn compare_outcomes(batch: relaymarten::Decoded, slots: &[(u32, u8)], leaders: &[u32]) {
     let wanted: Vec<Outcome<u32>> = slots.iter().map(|&(word, count)| outcome(word, count)).collect();
     assert_eq!(batch.iter().collect::<Vec<_>>(), wanted);
     assert_eq!(batch.into_iter().size_hint(), (wanted.len(), Some(wanted.len())));

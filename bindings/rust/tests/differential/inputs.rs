@@ -83,13 +83,18 @@ pub fn spoil(r: &mut Random, words: &mut [u32], places: u32) {
     }
 }
 
+/// A sum of rows.
+pub fn codeword(r: &mut Random, m: &Matrix) -> u32 {
+    let u = r.word(16);
+    m.rows.iter().enumerate().filter(|(i, _)| u >> i & 1 == 1).fold(0, |c, (_, row)| c ^ row)
+}
+
 /// Received words: any words, codewords, and codewords with one to four changed places.
 pub fn received(r: &mut Random, m: &Matrix) -> Vec<u32> {
     let places = m.n.clamp(1, 32);
     let mut words: Vec<u32> = (0..how_many(r))
         .map(|_| {
-            let u = r.word(16);
-            let c = m.rows.iter().enumerate().filter(|(i, _)| u >> i & 1 == 1).fold(0, |c, (_, row)| c ^ row);
+            let c = codeword(r, m);
             match r.below(5) {
                 0 => r.word(places),
                 t => c ^ r.pattern(places, (t as u32 - 1).min(places)),

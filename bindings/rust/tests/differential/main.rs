@@ -8,6 +8,7 @@ mod codes;
 mod golay;
 mod hsiao;
 mod inputs;
+mod interleaving;
 mod plain;
 mod random;
 mod sheets;

@@ -12,7 +12,8 @@ fn refused<T>(number: u32, value: usize) -> Result<T, Refused> {
     Err((number, value))
 }
 
-fn outside(words: &[u32], places: u32) -> Option<usize> {
+/// The first word with a one outside its places.
+pub fn outside(words: &[u32], places: u32) -> Option<usize> {
     words.iter().position(|&w| (w as u64) >> places != 0)
 }
 
@@ -189,13 +190,17 @@ pub struct Lists<'a> {
     pub work: &'a mut [u32],
 }
 
-pub fn decode(n: u32, k: u32, rows: &[u32], radius: Option<u32>, words: &[u32], to: Lists) -> Result<Code, Refused> {
+/// Causes 1 to 5.
+pub fn admit(n: u32, k: u32, rows: &[u32], radius: Option<u32>) -> Result<Code, Refused> {
     let code = accept(n, k, rows)?;
-    if let Some(r) = radius {
-        if 2 * r as u64 + 1 > code.dmin() as u64 {
-            return refused(5, 0);
-        }
+    match radius {
+        Some(r) if 2 * r as u64 + 1 > code.dmin() as u64 => refused(5, 0),
+        _ => Ok(code),
     }
+}
+
+pub fn decode(n: u32, k: u32, rows: &[u32], radius: Option<u32>, words: &[u32], to: Lists) -> Result<Code, Refused> {
+    let code = admit(n, k, rows, radius)?;
     lists(words, n, to.out.len().min(to.counts.len()))?;
     room(&code, to.work.len())?;
     for (i, &w) in words.iter().enumerate() {

@@ -37,7 +37,7 @@ accepted : (c : tie.After-enum-told)
 accepted c =
     let k = c .before .before in
     let a = start k .args in
-    accepted-past (a .n) (a .k) (a .rows .now) _ (sym (k .known-past .ensures .answer) ∙ c .enum-told .given .1)
+    accepted-past (a .n) (a .k) (a .rows .now) (a .reading) _ (sym (k .known-past .ensures .answer) ∙ c .enum-told .given .1)
 
 abbrev passed : tie.After-slice-known4 → tie.After-enum-told
 passed c = c .before .before .before .before .before .before

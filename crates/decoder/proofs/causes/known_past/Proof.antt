@@ -1,70 +1,42 @@
--- `decoder::causes::known_past`: the causes of the matrix, then causes 5 to 8 by its minimum distance. Assumes nothing.
-use mathlib.Core.Path.{_≡_, sym, ap, subst, _∙_}
-use mathlib.Core.Bool.{Bool, true}
-use Prim.Native.Nat.{min}
+-- `decoder::causes::known_past`: causes 1 to 5, then those of the lists. Assumes nothing.
+use mathlib.Core.Path.{_≡_, sym, ap, _∙_}
 use borrow.Author.Needs.{needs}
-use Rattle.coding.specs.Weight.{dmin}
-use Rattle.words.specs.Accepted.{matrixAnswer}
 use Rattle.words.specs.Lists.{listAnswer}
-use Rattle.words.specs.Refusal.{andThen}
-use Rattle.words.specs.declared.answer.Answer.{Answer}
 use Rattle.words.proofs.AnswerLaws.{refused-done, stays, goes}
-use Rattle.parity.proofs.CodeOfLaws.{checks-of}
-use Rattle.decoder.specs.Inner.Known.{asked, KnownOf}
-use Rattle.decoder.proofs.CauseLaws.{radius-same, asked-within, asked-measured, distance-of}
+use Rattle.decoder.specs.Causes.{codeAnswer}
 use Rattle.decoder.proofs.causes.known_past.Statement.{statement}
 use Rattle.decoder.proofs.causes.known_past.Tie as tie
 
-abbrev start : tie.After-known-of → tie.Start
-start c = c .before .before .before .before
-
--- what the matrix told
-told : (c : tie.After-known-of)
-    → let a = start c .args in
-    KnownOf (a .n) (a .k) (a .rows .now) (asked (a .reading) (a .measure)) (c .known-of .result)
-told c =
-    let a = start c .args in
-    subst (λ (b : Bool). KnownOf (a .n) (a .k) (a .rows .now) b (c .known-of .result)) (c .before .asks .ensures) (c .known-of .ensures)
-
--- it is accepted
-measured : (c : tie.After-enum-told)
-    → let a = start (c .before .before) .args in
-    asked (a .reading) (a .measure) ≡ true → c .before .before .known-of .result .dmin ≡ dmin (a .rows .now)
-measured c e = distance-of (told (c .before .before)) e (c .enum-told .given .1)
+abbrev start : tie.After-known-code → tie.Start
+start c = c .before .before .before
 
 returns : tie.Need-returns
 returns c =
     let k = c .before .before in
-    let m = told k .checks .answer in
+    let a = start k .args in
+    let m = k .known-code .ensures .answer in
     let e = c .enum-told2 .given .1 in
     record {
-      answer = m ∙ stays (matrixAnswer (start k .args .n) (start k .args .k) (start k .args .rows .now)) _ _ (sym m ∙ e);
+      answer = m ∙ stays (codeAnswer (a .n) (a .k) (a .rows .now) (a .reading)) _ _ (sym m ∙ e);
       check-rows = λ d. refused-done (sym e ∙ d);
       distance = λ _ d. refused-done (sym e ∙ d);
     }
 
-middle-cause-requires : tie.Need-middle-cause-requires
-middle-cause-requires c κs =
-    let k = c .before .before in
-    λ ρ e. told k .positive (asked-within (start k .args .reading) (start k .args .measure) ρ e) (c .enum-told .given .1)
-
 returns-2 : tie.Need-returns-2
 returns-2 c =
-    let r = c .before in
-    let t = r .before in
+    let l = c .before in
+    let t = l .before .before in
     let k = t .before .before in
     let a = start k .args in
-    let later = listAnswer (a .words .now) (a .n) (min (a .slots) (a .bytes)) in
-    let accepted = sym (told k .checks .answer) ∙ t .enum-told .given .1 in
+    let passed = t .enum-told .given .1 in
     record {
-      answer = r .middle-cause .ensures
-          ∙ ap (λ (x : Answer). andThen x later) (radius-same (a .reading) (a .measure) _ (dmin (a .rows .now)) (measured t))
-          ∙ goes (matrixAnswer (a .n) (a .k) (a .rows .now)) _ accepted;
-      check-rows = λ _. checks-of (told k .checks) (t .enum-told .given .1);
-      distance = λ e _. measured t (asked-measured (a .reading) (a .measure) e);
+      answer = l .list-cause .ensures ∙ ap (listAnswer (a .words .now) (a .n)) (l .before .smaller .ensures)
+          ∙ goes (codeAnswer (a .n) (a .k) (a .rows .now) (a .reading)) _ (sym (k .known-code .ensures .answer) ∙ passed);
+      check-rows = λ _. k .known-code .ensures .check-rows passed;
+      distance = λ e _. k .known-code .ensures .distance e passed;
     }
 
 pub known-past-spec : {M : Type 1} → statement M
 known-past-spec =
     tie.close
-    (tie.spec (λ c κs. search needs) (λ c κs. search needs) (λ c. search needs) (λ c. search needs) returns middle-cause-requires returns-2)
+    (tie.spec (λ c κs. search needs) (λ c. search needs) (λ c. search needs) returns (λ c κs. search needs) (λ c κs. search needs) returns-2)

@@ -1,7 +1,7 @@
 -- `parity::check::column`: c holds place q of the rows from p on. Assumes nothing.
 use Rattle.coding.specs.Word.{bit}
 use Rattle.coding.proofs.WordLaws.{bit-lt}
-use Rattle.parity.proofs.JoinedLaws.{Joined, joined-start, joined-step, joined-end}
+use Rattle.coding.proofs.JoinedLaws.{Joined, joined-start, joined-step, joined-end}
 use borrow.Author.Needs.{needs}
 use Rattle.parity.proofs.check.column.Statement.{statement}
 use Rattle.parity.proofs.check.column.Tie as tie

@@ -1,7 +1,7 @@
 -- `parity::check::parities`: s holds the parities by the check rows from j on. Assumes nothing.
 use Rattle.coding.specs.Word.{parity}
 use Rattle.coding.proofs.WeightLaws.{parity-lt}
-use Rattle.parity.proofs.JoinedLaws.{Joined, joined-start, joined-step, joined-end}
+use Rattle.coding.proofs.JoinedLaws.{Joined, joined-start, joined-step, joined-end}
 use borrow.Author.Needs.{needs}
 use Rattle.parity.proofs.check.parities.Statement.{statement}
 use Rattle.parity.proofs.check.parities.Tie as tie

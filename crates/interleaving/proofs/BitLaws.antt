@@ -1,0 +1,100 @@
+-- Laws of the causes 16 and 17: what each test decides, what is known when they pass, and the bytes joined into one. Assumes nothing.
+use mathlib.Core.Path.{_≡_, refl, sym, ap, _∙_}
+use mathlib.Core.Logic.{_≢_}
+use mathlib.Core.List.{List}
+use mathlib.Core.Bool.{Bool, true, false}
+use Prim.Native.Nat.{ℕ, _+_, _*_, _≤_, _<_}
+use native.Mathlib.Omega.{arith}
+use lib.Dec.{eqb, leb, ltb}
+use lib.ListN.{length, getD}
+use lib.Bits.{bitAnd, bitOr, or-lt, or-add-and, and-le-l, and-le-r}
+use borrow.Author.Tests.{leb-true, le-leb, lt-leb, eqb-true, eq-eqb, ne-eqb, ltb-true, ltb-false}
+use borrow.Author.Count.{below-more}
+use Rattle.coding.specs.Matrix.{Inside}
+use Rattle.words.specs.Limits.{maxDepth}
+use Rattle.words.specs.Refusal.{unless, andThen}
+use Rattle.words.specs.Shape.{firstOutside}
+use Rattle.words.specs.declared.answer.Refusal.the-variants.{NoDepth, NoBits}
+use Rattle.words.specs.declared.answer.Answer.the-variants.{Done, Refused}
+use Rattle.words.proofs.AnswerLaws.{unless-done, andThen-done, goes}
+use Rattle.words.proofs.ShapeLaws.{outside-none, inside-none}
+use Rattle.interleaving.specs.Causes.{onlyBits, lengthAnswer, bitsAnswer}
+
+-- ---- cause 16, and the length
+
+module _ (n L m : ℕ) where
+  pub depth-zero : L < 1 → Refused NoDepth ≡ lengthAnswer n L m
+  unfolding lengthAnswer
+  depth-zero h = simp (lt-leb 1 L h)
+
+  pub depth-large : 1 ≤ L → maxDepth < L → Refused NoDepth ≡ lengthAnswer n L m
+  unfolding lengthAnswer
+  depth-large h k = simp (le-leb 1 L h, lt-leb L maxDepth k)
+
+  pub length-other : 1 ≤ L → L ≤ maxDepth → m ≢ L * n → Refused NoBits ≡ lengthAnswer n L m
+  unfolding lengthAnswer
+  length-other h k e = simp (le-leb 1 L h, le-leb L maxDepth k, ne-eqb m (L * n) e)
+
+  pub length-right : 1 ≤ L → L ≤ maxDepth → m ≡ L * n → Done ≡ lengthAnswer n L m
+  unfolding lengthAnswer
+  length-right h k e = simp (le-leb 1 L h, le-leb L maxDepth k, eq-eqb m (L * n) e)
+
+  -- what is known when they pass
+  pub record Fitting : Type 0 where
+    pub positive : 0 < L
+    pub small : L ≤ maxDepth
+    pub long : m ≡ L * n
+
+  pub length-in : lengthAnswer n L m ≡ Done → Fitting
+  unfolding lengthAnswer
+  length-in e =
+      let (low, d) = unless-done (leb 1 L) NoDepth _ e in
+      let (high, l) = unless-done (leb L maxDepth) NoDepth _ d in
+      record {
+        positive = leb-true 1 L low;
+        small = leb-true L maxDepth high;
+        long = eqb-true m (L * n) (unless-done (eqb m (L * n)) NoBits Done l .0);
+      }
+
+-- ---- cause 17 of received bits
+
+module _ (n L : ℕ) (bits : List ℕ) where
+  pub bits-decide : lengthAnswer n L (length bits) ≡ Done → unless (onlyBits bits) NoBits Done ≡ bitsAnswer n L bits
+  unfolding bitsAnswer
+  bits-decide e = goes (lengthAnswer n L (length bits)) _ e
+
+  pub bits-in : bitsAnswer n L bits ≡ Done → Fitting n L (length bits) × Inside 1 bits
+  unfolding bitsAnswer
+  bits-in e =
+      let (a, b) = andThen-done (lengthAnswer n L (length bits)) _ e in
+      (length-in n L (length bits) a, outside-none 1 bits (eqb-true (firstOutside 1 bits) (length bits) (unless-done (onlyBits bits) NoBits Done b .0)))
+
+-- ---- the bytes joined: below 2 exactly when each of them is
+
+pub record Gathered (bits : List ℕ) (b all : ℕ) : Type 0 where
+  pub within : b ≤ length bits
+  pub each : all < 2 → (c : ℕ) → c < b → getD bits c 0 < 2
+  pub joint : ((c : ℕ) → c < b → getD bits c 0 < 2) → all < 2
+
+pub gathered-start : (bits : List ℕ) → Gathered bits 0 0
+gathered-start bits = record { within = omega arith; each = λ h c k. absurd (omega arith); joint = λ f. omega arith }
+
+module _ {bits : List ℕ} {b all : ℕ} (G : Gathered bits b all) where
+  pub gathered-step : b < length bits → Gathered bits (b + 1) (bitOr all (getD bits b 0))
+  gathered-step more =
+      let x = getD bits b 0 in
+      let e : bitOr all x + bitAnd all x ≡ all + x = or-add-and all x in
+      record {
+        within = omega arith;
+        each = λ h. below-more _ _ (G .each (omega (arith, e, h, and-le-r all x))) (omega (arith, e, h, and-le-l all x));
+        joint = λ f. or-lt 1 all x (G .joint (λ c k. f c (omega arith))) (f b (omega arith));
+      }
+
+  pub gathered-end : length bits ≤ b → ltb all 2 ≡ onlyBits bits
+  gathered-end h = go (ltb all 2) refl
+    where
+      go : (t : Bool) → ltb all 2 ≡ t → t ≡ onlyBits bits
+      go true e =
+          sym (eq-eqb (firstOutside 1 bits) (length bits) (inside-none 1 bits (λ c k. G .each (ltb-true all 2 e) c (omega arith))))
+      go false e = sym (ne-eqb (firstOutside 1 bits) (length bits)
+          (λ z. absurd (omega (arith, ltb-false all 2 e, G .joint (λ c k. outside-none 1 bits z c (omega (arith, k, G .within)))))))

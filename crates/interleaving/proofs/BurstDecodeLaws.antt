@@ -1,0 +1,160 @@
+-- What the decode promises: its causes and their numbers, and bursts from demand 3 of each word. Assumes nothing.
+use mathlib.Core.Path.{_≡_, refl, sym, ap, _∙_}
+use mathlib.Core.Logic.{_⊎_, _≢_, inl, inr}
+use mathlib.Core.List.{List, map, _++_}
+use Prim.Native.Nat.{ℕ, _*_, _≤_, _<_}
+use native.Mathlib.Omega.{arith}
+use lib.Dec.{eqb, leb}
+use lib.ListN.{length, getD, drop, length-append, length-map}
+use borrow.Author.Tests.{le-leb, lt-leb}
+use Rattle.coding.specs.Matrix.{Inside, Codeword}
+use Rattle.coding.specs.Word.{distance}
+use Rattle.coding.specs.Weight.{dmin}
+use Rattle.coding.specs.Radius.{RadiusRules}
+use Rattle.coding.specs.Interleaving.{sortedWord, sortedWords, BurstRule}
+use Rattle.coding.proofs.MatrixLaws.{codeword-lt}
+use Rattle.coding.proofs.InterleavingLaws.{sorted-at, sorted-long, sorted-inside, burst-rule}
+use Rattle.words.specs.Limits.{maxPlaces, maxDepth}
+use Rattle.words.specs.Refusal.{numberOf, unless, andThen}
+use Rattle.words.specs.Shape.{shapeAnswer}
+use Rattle.words.specs.Accepted.{matrixAnswer}
+use Rattle.words.specs.declared.answer.Refusal.{Refusal}
+use Rattle.words.specs.declared.answer.Refusal.the-variants.{OutOfRange, NoDepth, NoBits}
+use Rattle.words.specs.declared.answer.Answer.{Answer}
+use Rattle.words.specs.declared.answer.Answer.the-variants.{Done, Refused}
+use Rattle.words.proofs.AnswerLaws.{refused-done, andThen-done, stays, goes, Numbered, unless-numbered, andThen-numbered, numbered-as, Between}
+use Rattle.words.proofs.AcceptedLaws.{shape-refused}
+use Rattle.outcomes.specs.Outcome.{wordOf}
+use Rattle.outcomes.specs.declared.ending.Reading.the-variants.{Within}
+use Rattle.decoder.specs.Causes.{codeAnswer, listsAnswer, decodeAnswer}
+use Rattle.decoder.specs.Decoded.{Lent, Decoded}
+use Rattle.decoder.proofs.CauseLaws.{accepted-past, at-matrix, code-numbered, lists-last}
+use Rattle.interleaving.specs.Causes.{onlyBits, lengthAnswer, bitsAnswer, interleavedAnswer}
+use Rattle.interleaving.specs.Decoded.{Received, sortedBatch, DecodedInterleaved}
+use Rattle.interleaving.proofs.BitLaws.{bits-in}
+
+-- ---- the causes in order
+
+module _ (n k : ℕ) (rows : List ℕ) (ρ L : ℕ) (bits : List ℕ) (slots bytes room : ℕ) where
+  abbrev answer : Answer
+  answer = interleavedAnswer n k rows ρ L bits slots bytes room
+
+  -- no word has more than 28 places
+  pub too-long : maxPlaces < n → Refused OutOfRange ≡ answer
+  unfolding interleavedAnswer shapeAnswer
+  too-long h =
+      let m = shape-refused n k rows OutOfRange (simp (le-leb 2 n (omega arith), lt-leb n maxPlaces h)) in
+      sym (rw (sym (at-matrix n k rows (Within ρ) OutOfRange m) ∙ m) refl)
+
+  -- 16 and 17 past the first five
+  pub bits-refused : (a r : Answer) (c : Refusal) → a ≡ bitsAnswer n L bits → a ≡ Refused c → r ≡ andThen (codeAnswer n k rows (Within ρ)) a → r ≡ answer
+  unfolding interleavedAnswer
+  bits-refused a r c b e s = s ∙ ap (andThen (codeAnswer n k rows (Within ρ))) (b ∙ stays (bitsAnswer n L bits) _ c (sym b ∙ e))
+
+  -- where they pass, Decode's
+  pub decode-decides : bitsAnswer n L bits ≡ Done → decodeAnswer n k rows (Within ρ) (sortedWords n L bits) slots bytes room ≡ answer
+  unfolding interleavedAnswer decodeAnswer
+  decode-decides e = ap (andThen (codeAnswer n k rows (Within ρ))) (goes (bitsAnswer n L bits) _ e)
+
+  -- ---- 6 and 7 never arise
+
+  abbrev Other : ℕ → Type 0
+  Other m = (m ≢ 6) × (m ≢ 7)
+
+  bits-numbered : Numbered Other (bitsAnswer n L bits)
+  unfolding bitsAnswer lengthAnswer
+  bits-numbered =
+      andThen-numbered Other (lengthAnswer n L (length bits)) _
+      (unless-numbered Other (leb 1 L) NoDepth _ other16
+      (unless-numbered Other (leb L maxDepth) NoDepth _ other16 (unless-numbered Other (eqb (length bits) (L * n)) NoBits Done other17 tt)))
+      (unless-numbered Other (onlyBits bits) NoBits Done other17 tt)
+    where
+      other16 : Other 16
+      other16 = (λ e. absurd (omega arith), λ e. absurd (omega arith))
+
+      other17 : Other 17
+      other17 = (λ e. absurd (omega arith), λ e. absurd (omega arith))
+
+  -- the words sorted back are few and have n places
+  lists-numbered : bitsAnswer n L bits ≡ Done → Numbered Other (listsAnswer n k (sortedWords n L bits) slots bytes room)
+  lists-numbered e =
+      let (F, f) = bits-in n L bits e in
+      numbered-as Other (Between 8 9) (λ m h. (λ z. absurd (omega (arith, h)), λ z. absurd (omega (arith, h))))
+      (listsAnswer n k (sortedWords n L bits) slots bytes room)
+      (lists-last n k (sortedWords n L bits) slots bytes room (omega (arith, F .small, sorted-long n L bits)) (sorted-inside n L bits f))
+
+  numbered : Numbered Other answer
+  unfolding interleavedAnswer
+  numbered =
+      andThen-numbered Other (codeAnswer n k rows (Within ρ)) _
+      (numbered-as Other (Between 1 5) (λ m h. (λ z. absurd (omega (arith, h)), λ z. absurd (omega (arith, h)))) (codeAnswer n k rows (Within ρ))
+      (code-numbered n k rows (Within ρ)))
+      (go (bitsAnswer n L bits) refl bits-numbered)
+    where
+      go : (b : Answer) → bitsAnswer n L bits ≡ b → Numbered Other b → Numbered Other (andThen b (listsAnswer n k (sortedWords n L bits) slots bytes room))
+      go Done e h = lists-numbered e
+      go (Refused c) e h = h
+
+  pub other-number : (c : Refusal) → answer ≡ Refused c → (numberOf c ≢ 6) × (numberOf c ≢ 7)
+  other-number c e = rw e at numbered
+
+-- ---- the promise
+
+module _ (R : Received) (before : Lent) where
+  abbrev answerTo : Answer
+  answerTo =
+      answer (R .n) (R .k) (R .rows) (R .radius) (R .depth) (R .bits) (length (before .codewords)) (length (before .counts)) (length (before .work))
+
+  pub decode-refused : (r : Answer) (c : Refusal) → r ≡ Refused c → r ≡ answerTo → (after : Lent) → after ≡ before → DecodedInterleaved R before r after
+  decode-refused r c e a after s =
+      let (six, seven) = other-number (R .n) (R .k) (R .rows) (R .radius) (R .depth) (R .bits) _ _ _ c (sym a ∙ e) in
+      record {
+        answer = a;
+        either = inl (c, e, six, seven, s);
+        each = λ d. refused-done (sym e ∙ d);
+        bursts = λ d. refused-done (sym e ∙ d);
+      }
+
+  -- whichever way it ends
+  pub bits-refuse : (r : Answer) (b : Answer) (c : Refusal) → r ≡ answerTo → b ≡ Refused c → r ≡ andThen (codeAnswer (R .n) (R .k) (R .rows) (Within (R .radius))) b
+      → DecodedInterleaved R before r before
+  bits-refuse r b c a e s = go (codeAnswer (R .n) (R .k) (R .rows) (Within (R .radius))) s
+    where
+      go : (x : Answer) → r ≡ andThen x b → DecodedInterleaved R before r before
+      go Done q = decode-refused r c (q ∙ e) a before refl
+      go (Refused d) q = decode-refused r d q a before refl
+
+  -- where the bits are in order, by what Decode promises of the words sorted back
+  module _ (b : bitsAnswer (R .n) (R .depth) (R .bits) ≡ Done) (r : Answer) (after : Lent) (D : Decoded (sortedBatch R) before r after) where
+    rows-inside : r ≡ Done → Inside (R .n) (R .rows)
+    unfolding decodeAnswer
+    rows-inside d =
+        accepted-past (R .n) (R .k) (R .rows) (Within (R .radius))
+        (listsAnswer (R .n) (R .k) (sortedWords (R .n) (R .depth) (R .bits)) (length (before .codewords)) (length (before .counts)) (length (before .work)))
+        (sym (D .answer) ∙ d) .inside
+
+    words-there : r ≡ Done → R .depth ≤ length (after .codewords)
+    words-there d =
+        let B = sortedBatch R in
+        let new = map (wordOf (B .n) (B .rows) (B .reading)) (B .words) in
+        let e : after .codewords ≡ new ++ drop (length new) (before .codewords) = rw d at (D .codewords) in
+        omega (arith, ap length e ∙ length-append new _, length-map (B .words) (wordOf (B .n) (B .rows) (B .reading)), sorted-long (R .n) (R .depth) (R .bits))
+
+    burst-mended : r ≡ Done → BurstRule (Codeword (R .rows)) (R .n) (R .depth) (R .radius) (R .bits) (after .codewords) (after .counts)
+    burst-mended d =
+        let n = R .n in
+        let L = R .depth in
+        let (F, f) = bits-in n L (R .bits) b in
+        burst-rule (Codeword (R .rows)) n L (dmin (R .rows)) (R .radius) (R .bits) (after .codewords) (after .counts) (λ i. getD (after .counts) i 0 ≡ 255)
+        (F .positive) (codeword-lt n (R .rows) (rows-inside d)) f (words-there d)
+        (λ i h. rw (sorted-at n L (R .bits) i h) at (D .within d (R .radius) refl i (rw (sorted-long n L (R .bits)) h)))
+
+    pub decode-ends : DecodedInterleaved R before r after
+    decode-ends = go (D .either)
+      where
+        a : r ≡ answerTo
+        a = D .answer ∙ decode-decides (R .n) (R .k) (R .rows) (R .radius) (R .depth) (R .bits) _ _ _ b
+
+        go : ((c : Refusal) × (r ≡ Refused c) × (1 ≤ numberOf c) × (numberOf c ≤ 9) × (after ≡ before)) ⊎ (r ≡ Done) → DecodedInterleaved R before r after
+        go (inl (c, e, low, high, s)) = decode-refused r c e a after s
+        go (inr d) = record { answer = a; either = inr d; each = λ _. D; bursts = burst-mended }

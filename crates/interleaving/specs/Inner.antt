@@ -1,0 +1,1 @@
+pub mod Sent  -- the bits sent so far
