@@ -1,10 +1,10 @@
 -- Laws of interleaving: place j of word i is bit number L * j + i, sorting back undoes it and is undone by it, and of a burst of L * r places
 -- no word has more than r. Assumes nothing.
-use mathlib.Core.Path.{_≡_, refl, sym, ap, ap₂, _∙_}
+use mathlib.Core.Path.{_≡_, sym, ap, ap₂, _∙_}
 use mathlib.Core.Logic.{_⊎_, inl, inr}
 use mathlib.Core.List.{List}
 use Prim.Native.Nat.{ℕ, zero, suc, _+_, _-_, _*_, _/_, _%_, _^_, _≤_, _<_, suc-le-suc}
-use native.Mathlib.Nat.{le-refl, mod-lt, mul-add-div, mul-add-mod-self-left, div-eq-of-lt, mod-eq-of-lt, div-add-mod, div-lt-iff-lt-mul, le-div-iff-mul-le, lt-div-mul-add, mul-le-mul-right, mul-comm, add-mul}
+use native.Mathlib.Nat.{mod-lt, mul-add-div, mul-add-mod-self-left, div-eq-of-lt, mod-eq-of-lt, div-add-mod, div-lt-iff-lt-mul, le-div-iff-mul-le, lt-div-mul-add, mul-le-mul-right, mul-comm, add-mul}
 use native.Mathlib.Decide.{decLe}
 use native.Mathlib.Omega.{arith}
 use lib.ListN.{length, getD, take, List·getD-eq-default}
@@ -14,7 +14,6 @@ use lib.Bits.{xor-lt}
 use Rattle.coding.specs.Lists.{tabulate}
 use Rattle.coding.specs.Word.{_⊕_, bit, weight, distance}
 use Rattle.coding.specs.Matrix.{Inside}
-use Rattle.coding.specs.Check.{places}
 use Rattle.coding.specs.Radius.{RadiusRules}
 use Rattle.coding.specs.Interleaving.{sentBit, interleaved, sortedWord, sortedWords, Burst, SentWithBurst, BurstRule}
 use Rattle.coding.proofs.ListLaws.{length-tabulate, getD-tabulate}

@@ -34,8 +34,8 @@ pub record SentWithBurst (C : ℕ → Type 0) (n L s a : ℕ) (sent bits : List 
   pub codewords : (i : ℕ) → i < L → C (getD sent i 0)
   pub burst : Burst a s (interleaved n sent) bits
 
--- a burst of L * r places is mended, whatever was sent and wherever it begins: the answers begin with the words sent, and each count is the
--- number of places in which its word was changed, at most r
+-- a burst of L * r places is mended, whatever was sent and wherever it begins (with r = 0 that is the unchanged list): the answers begin with
+-- the words sent, and each count is the number of places in which its word was changed, at most r
 pub record BurstRule (C : ℕ → Type 0) (n L r : ℕ) (bits codewords counts : List ℕ) : Type 0 where
   pub mended : (sent : List ℕ) (a : ℕ) → SentWithBurst C n L (L * r) a sent bits → take L codewords ≡ sent
   pub counted : (sent : List ℕ) (a : ℕ) → SentWithBurst C n L (L * r) a sent bits → (i : ℕ) → i < L

@@ -1,5 +1,5 @@
 -- Laws of the causes 16 and 17: what each test decides, what is known when they pass, and the bytes joined into one. Assumes nothing.
-use mathlib.Core.Path.{_≡_, refl, sym, ap, _∙_}
+use mathlib.Core.Path.{_≡_, refl, sym}
 use mathlib.Core.Logic.{_≢_}
 use mathlib.Core.List.{List}
 use mathlib.Core.Bool.{Bool, true, false}
@@ -12,7 +12,7 @@ use borrow.Author.Tests.{leb-true, le-leb, lt-leb, eqb-true, eq-eqb, ne-eqb, ltb
 use borrow.Author.Count.{below-more}
 use Rattle.coding.specs.Matrix.{Inside}
 use Rattle.words.specs.Limits.{maxDepth}
-use Rattle.words.specs.Refusal.{unless, andThen}
+use Rattle.words.specs.Refusal.{unless}
 use Rattle.words.specs.Shape.{firstOutside}
 use Rattle.words.specs.declared.answer.Refusal.the-variants.{NoDepth, NoBits}
 use Rattle.words.specs.declared.answer.Answer.the-variants.{Done, Refused}

@@ -8,21 +8,18 @@ use lib.Dec.{eqb, leb}
 use lib.ListN.{length, getD, drop, length-append, length-map}
 use borrow.Author.Tests.{le-leb, lt-leb}
 use Rattle.coding.specs.Matrix.{Inside, Codeword}
-use Rattle.coding.specs.Word.{distance}
 use Rattle.coding.specs.Weight.{dmin}
-use Rattle.coding.specs.Radius.{RadiusRules}
-use Rattle.coding.specs.Interleaving.{sortedWord, sortedWords, BurstRule}
+use Rattle.coding.specs.Interleaving.{sortedWords, BurstRule}
 use Rattle.coding.proofs.MatrixLaws.{codeword-lt}
 use Rattle.coding.proofs.InterleavingLaws.{sorted-at, sorted-long, sorted-inside, burst-rule}
 use Rattle.words.specs.Limits.{maxPlaces, maxDepth}
-use Rattle.words.specs.Refusal.{numberOf, unless, andThen}
+use Rattle.words.specs.Refusal.{numberOf, andThen}
 use Rattle.words.specs.Shape.{shapeAnswer}
-use Rattle.words.specs.Accepted.{matrixAnswer}
 use Rattle.words.specs.declared.answer.Refusal.{Refusal}
 use Rattle.words.specs.declared.answer.Refusal.the-variants.{OutOfRange, NoDepth, NoBits}
 use Rattle.words.specs.declared.answer.Answer.{Answer}
 use Rattle.words.specs.declared.answer.Answer.the-variants.{Done, Refused}
-use Rattle.words.proofs.AnswerLaws.{refused-done, andThen-done, stays, goes, Numbered, unless-numbered, andThen-numbered, numbered-as, Between}
+use Rattle.words.proofs.AnswerLaws.{refused-done, stays, goes, Numbered, unless-numbered, andThen-numbered, numbered-as, Between}
 use Rattle.words.proofs.AcceptedLaws.{shape-refused}
 use Rattle.outcomes.specs.Outcome.{wordOf}
 use Rattle.outcomes.specs.declared.ending.Reading.the-variants.{Within}

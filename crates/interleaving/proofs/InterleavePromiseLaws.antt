@@ -2,10 +2,8 @@
 use mathlib.Core.Path.{_≡_, refl, sym, ap, _∙_}
 use mathlib.Core.List.{List, _++_}
 use Prim.Native.Nat.{ℕ, _+_, _*_, _<_}
-use native.Mathlib.Omega.{arith}
 use lib.ListN.{length, getD, drop, List·getD-append}
 use Rattle.coding.specs.Lists.{tabulate}
-use Rattle.coding.specs.Matrix.{Inside}
 use Rattle.coding.specs.Interleaving.{sentBit, interleaved, sortedWord, sortedWords}
 use Rattle.coding.proofs.InterleavingLaws.{sent-bit, sorted-sent, sent-sorted, sorted-at, sorted-long, sorted-lt, sorted-bit}
 use Rattle.words.specs.Accepted.{matrixAnswer}
@@ -13,12 +11,12 @@ use Rattle.words.specs.Lists.{insideAnswer, roomAnswer}
 use Rattle.words.specs.declared.answer.Refusal.{Refusal}
 use Rattle.words.specs.declared.answer.Answer.{Answer}
 use Rattle.words.specs.declared.answer.Answer.the-variants.{Done, Refused}
-use Rattle.words.proofs.AnswerLaws.{refused-done, andThen-done, kept, filled}
+use Rattle.words.proofs.AnswerLaws.{refused-done, kept, filled}
 use Rattle.words.proofs.WordListLaws.{inside-in}
 use Rattle.interleaving.specs.Causes.{lengthAnswer, bitsAnswer, interleaveAnswer, deinterleaveAnswer}
 use Rattle.interleaving.specs.Interleaved.{Interleaved}
 use Rattle.interleaving.specs.Deinterleaved.{Deinterleaved}
-use Rattle.interleaving.proofs.BitLaws.{Fitting, length-in, bits-in}
+use Rattle.interleaving.proofs.BitLaws.{length-in, bits-in}
 
 -- ---- sending
 

@@ -1,6 +1,5 @@
 -- Laws of the loops that send: the places of a word are written at every L-th bit, word after word. Assumes nothing.
 use mathlib.Core.Path.{_≡_, refl, sym, ap, ap₂, subst, _∙_}
-use mathlib.Core.Logic.{_⊎_, inl, inr}
 use mathlib.Core.List.{List}
 use Prim.Native.Nat.{ℕ, _+_, _*_, _/_, _%_, _^_, _≤_, _<_}
 use native.Mathlib.Nat.{mod-lt, mod-le, div-add-mod, add-mod-right, add-div-right, div-eq-of-lt, mod-eq-of-lt, le-of-mul-le-mul-left, lt-of-mul-lt-mul-left, mul-add, mul-one, div-one}

@@ -25,7 +25,8 @@ fn after_code(n: u32, k: u32, rows: &[u32], radius: u32, refused: Answer) -> Ans
 }
 
 // Decodes the words that the bits say, within the radius: codewords and counts into the first two lists, the leaders into the third. The
-// matrix is walked once, by Decode, or where the bits are refused by its causes 1 to 5, which come first.
+// codewords are walked once: by Decode, or, where the bits are refused, for causes 1 to 5, which come first. Words of more places than any
+// code has are refused before bits are read by them.
 pub fn decode(
     n: u32,
     k: u32,

@@ -1,5 +1,5 @@
 -- `decoder::causes::known_past`: causes 1 to 5, then those of the lists. Assumes nothing.
-use mathlib.Core.Path.{_≡_, sym, ap, _∙_}
+use mathlib.Core.Path.{sym, ap, _∙_}
 use borrow.Author.Needs.{needs}
 use Rattle.words.specs.Lists.{listAnswer}
 use Rattle.words.proofs.AnswerLaws.{refused-done, stays, goes}

@@ -4,7 +4,7 @@ use lib.ListN.{length}
 use borrow.Author.Needs.{needs}
 use Rattle.words.specs.declared.answer.Answer.the-variants.{Done}
 use Rattle.words.proofs.AnswerLaws.{stays}
-use Rattle.interleaving.specs.Causes.{onlyBits, lengthAnswer, bitsAnswer}
+use Rattle.interleaving.specs.Causes.{lengthAnswer, bitsAnswer}
 use Rattle.interleaving.proofs.BitLaws.{bits-decide}
 use Rattle.interleaving.proofs.causes.bits_cause.Statement.{statement}
 use Rattle.interleaving.proofs.causes.bits_cause.Tie as tie

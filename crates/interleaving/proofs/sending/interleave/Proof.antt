@@ -3,7 +3,6 @@ use mathlib.Core.Path.{_≡_, sym, _∙_}
 use lib.ListN.{length}
 use borrow.Author.Needs.{needs}
 use Rattle.words.specs.Accepted.{matrixAnswer}
-use Rattle.words.specs.Lists.{insideAnswer}
 use Rattle.words.specs.declared.answer.Answer.the-variants.{Done}
 use Rattle.words.proofs.AnswerLaws.{stays, goes}
 use Rattle.interleaving.specs.Causes.{lengthAnswer}

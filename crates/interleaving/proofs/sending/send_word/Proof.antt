@@ -1,6 +1,6 @@
 -- `interleaving::sending::send_word`: the places of word i below bit b are sent. Assumes nothing.
 use mathlib.Core.Path.{_∙_}
-use Prim.Native.Nat.{_≤_, _<_, _-_}
+use Prim.Native.Nat.{_<_, _-_}
 use native.Mathlib.Omega.{arith}
 use lib.ListN.{length, length-set}
 use lib.Bits.{and-mask}

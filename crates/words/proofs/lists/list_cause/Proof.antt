@@ -1,8 +1,7 @@
 -- `words::lists::list_cause`: the causes in turn. Assumes nothing.
 use mathlib.Core.Path.{_≡_, sym, _∙_}
-use lib.ListN.{length}
 use borrow.Author.Needs.{needs}
-use Rattle.words.specs.Lists.{manyAnswer, insideAnswer, roomAnswer, listAnswer}
+use Rattle.words.specs.Lists.{manyAnswer, insideAnswer, listAnswer}
 use Rattle.words.specs.declared.answer.Answer.the-variants.{Done}
 use Rattle.words.proofs.AnswerLaws.{stays, goes}
 use Rattle.words.proofs.lists.list_cause.Statement.{statement}
