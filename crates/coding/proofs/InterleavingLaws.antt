@@ -24,13 +24,13 @@ use Rattle.coding.proofs.CheckLaws.{places-lt, places-bit}
 -- ---- bit numbers: b is L * (b / L) + b % L
 
 module _ (L : ℕ) (pos : 0 < L) where
-  pub at-div : (i j : ℕ) → i < L → (L * j + i) / L ≡ j
+  at-div : (i j : ℕ) → i < L → (L * j + i) / L ≡ j
   at-div i j h = mul-add-div pos j i ∙ omega (arith, div-eq-of-lt h)
 
-  pub at-mod : (i j : ℕ) → i < L → (L * j + i) % L ≡ i
+  at-mod : (i j : ℕ) → i < L → (L * j + i) % L ≡ i
   at-mod i j h = mul-add-mod-self-left L j i ∙ mod-eq-of-lt h
 
-  pub place-below : (n b : ℕ) → b < L * n → b / L < n
+  place-below : (n b : ℕ) → b < L * n → b / L < n
   place-below n b h = div-lt-iff-lt-mul {x = b} {y = n} pos .1 (rw (mul-comm n L) h)
 
   pub bit-below : (n i j : ℕ) → i < L → j < n → L * j + i < L * n
@@ -51,24 +51,27 @@ module _ (n : ℕ) (words : List ℕ) where
       ∙ ap₂ (λ (x y : ℕ). bit (getD words x 0) y) (at-mod (length words) pos i j h) (at-div (length words) pos i j h)
 
   pub sent-bits : Inside 1 (interleaved n words)
-  sent-bits b h = rw (getD-tabulate (sentBit words) (length words * n) b (rw interleaved-long at h)) (bit-lt (getD words (b % length words) 0) (b / length words))
+  sent-bits b h =
+      rw (getD-tabulate (sentBit words) (length words * n) b (rw interleaved-long at h))
+      (bit-lt (getD words (b % length words) 0) (b / length words))
 
 -- ---- sorting back
 
-module _ (n L : ℕ) (bits : List ℕ) (f : Inside 1 bits) where
-  pub bit-digit : (b : ℕ) → getD bits b 0 < 2
-  bit-digit b = go (decLe (length bits) b)
-    where
-      go : Dec (length bits ≤ b) → getD bits b 0 < 2
-      go (no h) = f b (omega arith)
-      go (yes h) = rw (List·getD-eq-default bits 0 {n = b} h) (omega arith)
+-- past the end the default is a bit too
+pub bit-digit : (bits : List ℕ) → Inside 1 bits → (b : ℕ) → getD bits b 0 < 2
+bit-digit bits f b = go (decLe (length bits) b)
+  where
+    go : Dec (length bits ≤ b) → getD bits b 0 < 2
+    go (no h) = f b (omega arith)
+    go (yes h) = rw (List·getD-eq-default bits 0 {n = b} h) (omega arith)
 
+module _ (n L : ℕ) (bits : List ℕ) (f : Inside 1 bits) where
   pub sorted-lt : (i : ℕ) → sortedWord n L bits i < 2 ^ n
-  sorted-lt i = rw (length-tabulate (λ j. j) n) at (places-lt (λ j. getD bits (L * j + i) 0) (λ j. bit-digit (L * j + i)) (tabulate (λ j. j) n))
+  sorted-lt i = rw (length-tabulate (λ j. j) n) at (places-lt (λ j. getD bits (L * j + i) 0) (λ j. bit-digit bits f (L * j + i)) (tabulate (λ j. j) n))
 
   pub sorted-bit : (i j : ℕ) → j < n → bit (sortedWord n L bits i) j ≡ getD bits (L * j + i) 0
   sorted-bit i j h =
-      places-bit (λ j. getD bits (L * j + i) 0) (λ j. bit-digit (L * j + i)) (tabulate (λ j. j) n) j (rw (length-tabulate (λ j. j) n) h)
+      places-bit (λ j. getD bits (L * j + i) 0) (λ j. bit-digit bits f (L * j + i)) (tabulate (λ j. j) n) j (rw (length-tabulate (λ j. j) n) h)
       ∙ ap (λ (x : ℕ). getD bits (L * x + i) 0) (getD-tabulate (λ j. j) n j h)
 
 pub sorted-at : (n L : ℕ) (bits : List ℕ) (i : ℕ) → i < L → getD (sortedWords n L bits) i 0 ≡ sortedWord n L bits i
@@ -131,27 +134,27 @@ window-weight (suc n) zero (suc r) x h f =
 
 -- ---- bursts
 
--- of L * r places from a on, those of word i are r consecutive ones from s on, s being the first place that travels at a or later
+-- of L * r bits from a on, those of word i are r consecutive places of it, from the first that travels at a or later
 module _ (L : ℕ) (pos : 0 < L) (a i : ℕ) (below : i < L) where
-  abbrev s : ℕ
-  s = (a + (L - 1 - i)) / L
+  abbrev first : ℕ
+  first = (a + (L - 1 - i)) / L
 
-  before-burst : (j : ℕ) → j < s → L * j + i < a
+  before-burst : (j : ℕ) → j < first → L * j + i < a
   before-burst j h =
       let e : suc j * L ≤ a + (L - 1 - i) = le-div-iff-mul-le {x = suc j} {y = a + (L - 1 - i)} pos .0 h in
       omega (arith, e, add-mul 1 j L, mul-comm j L)
 
-  after-burst : (r j : ℕ) → s + r ≤ j → a + L * r ≤ L * j + i
+  after-burst : (r j : ℕ) → first + r ≤ j → a + L * r ≤ L * j + i
   after-burst r j h =
-      let e : a + (L - 1 - i) < s * L + L = lt-div-mul-add {a = a + (L - 1 - i)} pos in
-      let k : (s + r) * L ≤ j * L = mul-le-mul-right L h in
-      omega (arith, e, k, add-mul s r L, mul-comm j L, mul-comm r L)
+      let e : a + (L - 1 - i) < first * L + L = lt-div-mul-add {a = a + (L - 1 - i)} pos in
+      let k : (first + r) * L ≤ j * L = mul-le-mul-right L h in
+      omega (arith, e, k, add-mul first r L, mul-comm j L, mul-comm r L)
 
 -- so that word i differs from the one sent in at most r places
 burst-near : (n L r a : ℕ) (sent bits : List ℕ) → 0 < L → length sent ≡ L → Inside n sent → Inside 1 bits → Burst a (L * r) (interleaved n sent) bits
     → (i : ℕ) → i < L → distance (sortedWord n L bits i) (getD sent i 0) ≤ r
 burst-near n L r a sent bits pos long f g burst i h =
-    window-weight n (s L pos a i h) r (sortedWord n L bits i ⊕ getD sent i 0)
+    window-weight n (first L pos a i h) r (sortedWord n L bits i ⊕ getD sent i 0)
     (xor-lt n _ _ (sorted-lt n L bits g i) (f i (rw long h))) outside
   where
     same : (j : ℕ) → j < n → (L * j + i < a) ⊎ (a + L * r ≤ L * j + i) → bit (sortedWord n L bits i) j ≡ bit (getD sent i 0) j
@@ -160,11 +163,11 @@ burst-near n L r a sent bits pos long f g burst i h =
         ∙ burst (L * j + i) (rw (interleaved-long n sent, long) (bit-below L pos n i j h k)) o
         ∙ ap (λ (x : ℕ). getD (interleaved n sent) (x * j + i) 0) (sym long) ∙ sent-bit n sent i j (rw long h) k
 
-    where-is : (j : ℕ) → (j < s L pos a i h) ⊎ (s L pos a i h + r ≤ j) → (L * j + i < a) ⊎ (a + L * r ≤ L * j + i)
+    where-is : (j : ℕ) → (j < first L pos a i h) ⊎ (first L pos a i h + r ≤ j) → (L * j + i < a) ⊎ (a + L * r ≤ L * j + i)
     where-is j (inl l) = inl (before-burst L pos a i h j l)
     where-is j (inr l) = inr (after-burst L pos a i h r j l)
 
-    outside : (j : ℕ) → j < n → (j < s L pos a i h) ⊎ (s L pos a i h + r ≤ j) → bit (sortedWord n L bits i ⊕ getD sent i 0) j ≡ 0
+    outside : (j : ℕ) → j < n → (j < first L pos a i h) ⊎ (first L pos a i h + r ≤ j) → bit (sortedWord n L bits i ⊕ getD sent i 0) j ≡ 0
     outside j k o =
         bit-xor (sortedWord n L bits i) (getD sent i 0) j
         ∙ ap (λ (x : ℕ). (x + bit (getD sent i 0) j) % 2) (same j k (where-is j o))

@@ -113,8 +113,8 @@ module _ (R : Received) (before : Lent) where
       }
 
   -- whichever way it ends
-  pub bits-refuse : (r : Answer) (b : Answer) (c : Refusal) → r ≡ answerTo → b ≡ Refused c → r ≡ andThen (codeAnswer (R .n) (R .k) (R .rows) (Within (R .radius))) b
-      → DecodedInterleaved R before r before
+  pub bits-refuse : (r : Answer) (b : Answer) (c : Refusal) → r ≡ answerTo → b ≡ Refused c
+      → r ≡ andThen (codeAnswer (R .n) (R .k) (R .rows) (Within (R .radius))) b → DecodedInterleaved R before r before
   bits-refuse r b c a e s = go (codeAnswer (R .n) (R .k) (R .rows) (Within (R .radius))) s
     where
       go : (x : Answer) → r ≡ andThen x b → DecodedInterleaved R before r before

@@ -54,7 +54,8 @@ module _ {words bits : List ℕ} {m i rest b : ℕ} (pos : 0 < length words) (S 
   sending-step v h e = record {
     sent = record {
       long = length-set bits b v ∙ S .sent .long;
-      words-sent = λ c k l. getD-set-other bits b c v 0 (λ z. absurd (omega (arith, l, S .phase, ap (λ (x : ℕ). x % length words) z))) ∙ S .sent .words-sent c k l;
+      words-sent = λ c k l.
+          getD-set-other bits b c v 0 (λ z. absurd (omega (arith, l, S .phase, ap (λ (x : ℕ). x % length words) z))) ∙ S .sent .words-sent c k l;
       places-sent = λ c k p l. go c k p l (decLe b c);
     };
     phase = add-mod-right b (length words) ∙ S .phase;

@@ -45,7 +45,7 @@ module _ {n L : ℕ} {bits : List ℕ} {i w j b : ℕ} (S : Sorting n L bits i w
 
   pub sorting-step : Inside 1 bits → Sorting n L bits i ((w * 2 ^ 1) % 2 ^ 32 ⊕ getD bits (b - L) 0) (j - 1) (b - L)
   sorting-step f = record {
-    word = joined-step (S .word) more (λ q. bit-digit n L bits f (L * q + i))
+    word = joined-step (S .word) more (λ q. bit-digit bits f (L * q + i))
         (ap (λ (x : ℕ). getD bits x 0) next
         ∙ ap (λ (q : ℕ). getD bits (L * q + i) 0) (sym (getD-tabulate (λ q. q) n (j - 1) (omega (arith, within)))));
     at = next;

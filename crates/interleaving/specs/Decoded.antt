@@ -30,7 +30,8 @@ sortedBatch R = record { n = R .n; k = R .k; rows = R .rows; reading = Within (R
 -- the decode either refuses, never under 6 or 7, with every list unchanged, or succeeds. Then everything that Decode promises holds of the
 -- words sorted back, demand 3 of each of them, and a burst of depth times radius places is mended
 pub record DecodedInterleaved (R : Received) (before : Lent) (r : Answer) (after : Lent) : Type 0 where
-  pub answer : r ≡ interleavedAnswer (R .n) (R .k) (R .rows) (R .radius) (R .depth) (R .bits) (length (before .codewords)) (length (before .counts)) (length (before .work))
+  pub answer : r ≡ interleavedAnswer (R .n) (R .k) (R .rows) (R .radius) (R .depth) (R .bits)
+      (length (before .codewords)) (length (before .counts)) (length (before .work))
   pub either : ((c : Refusal) × (r ≡ Refused c) × (numberOf c ≢ 6) × (numberOf c ≢ 7) × (after ≡ before)) ⊎ (r ≡ Done)
   pub each : r ≡ Done → Decoded (sortedBatch R) before r after
   pub bursts : r ≡ Done → BurstRule (Codeword (R .rows)) (R .n) (R .depth) (R .radius) (R .bits) (after .codewords) (after .counts)

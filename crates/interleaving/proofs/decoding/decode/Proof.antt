@@ -95,5 +95,5 @@ pub decode-spec : {M : Type 1} → statement M
 decode-spec =
     tie.close
     (tie.spec returns (λ c κs. search needs) (λ c. search needs) (λ c. search needs) (λ c κs. search needs) returns-2 (λ c. search needs) sort-words-requires
-    array-share-prefix-words
-    (λ c. sym (length-take-le _ _ (array-share-prefix-words (c .before)))) (λ c κs. search needs) (λ c. search needs) (λ c. search needs) (λ c. search needs) returns-3)
+    array-share-prefix-words (λ c. sym (length-take-le _ _ (array-share-prefix-words (c .before)))) (λ c κs. search needs) (λ c. search needs)
+    (λ c. search needs) (λ c. search needs) returns-3)

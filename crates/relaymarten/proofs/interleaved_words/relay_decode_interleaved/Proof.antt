@@ -13,4 +13,5 @@ returns c =
     told _ (C .answer) C (c .tell .ensures .0) (c .tell .ensures .1)
 
 pub relay-decode-interleaved-spec : {M : Type 1} → statement M
-relay-decode-interleaved-spec = tie.close (tie.spec (λ c κs. search needs) (λ c κs. search needs) (λ c. search needs) (λ c. search needs) (λ c. search needs) returns)
+relay-decode-interleaved-spec =
+    tie.close (tie.spec (λ c κs. search needs) (λ c κs. search needs) (λ c. search needs) (λ c. search needs) (λ c. search needs) returns)

@@ -40,4 +40,7 @@ returns-3 c =
     ∙ goes (manyAnswer (a .words .now)) _ (few (r .before))
 
 pub list-cause-spec : {M : Type 1} → statement M
-list-cause-spec = tie.close (tie.spec (λ c κs. search needs) (λ c. search needs) (λ c. search needs) returns (λ c κs. search needs) (λ c. search needs) (λ c. search needs) returns-2 (λ c κs. search needs) returns-3)
+list-cause-spec =
+    tie.close
+    (tie.spec (λ c κs. search needs) (λ c. search needs) (λ c. search needs) returns (λ c κs. search needs) (λ c. search needs) (λ c. search needs)
+    returns-2 (λ c κs. search needs) returns-3)
