@@ -1,16 +1,19 @@
--- Invariants that loops share, each with its start, its step and its end: a search from the front, a list overwritten from the front, and
--- entries added in front of zeros. Assumes nothing.
+-- Invariants that loops share, each with its start, its step and its end: a search from the front, a list overwritten from the front, words
+-- joined into one, and entries added in front of zeros. Assumes nothing.
 use mathlib.Core.Path.{_≡_, refl, sym, ap, ap₂, _∙_}
 use mathlib.Core.List.{List, [], _∷_, _++_, map, append-assoc, append-nil}
 use mathlib.Core.Bool.{Bool, true, false}
-use Prim.Native.Nat.{ℕ, zero, suc, _+_, _-_, _≤_, _<_}
+use Prim.Native.Nat.{ℕ, zero, suc, _+_, _-_, _^_, _≤_, _<_}
 use native.Mathlib.Nat.{le-of-suc-le-suc, zero-add, sub-zero, le-refl}
 use native.Mathlib.Numerals.{add-one}
 use native.Mathlib.Omega.{arith}
 use lib.ListN.{length, getD, take, drop, set, length-map, length-set, length-replicate, take-append-drop, List·getD-eq-default}
 use lib.Seq.{take-length, take-nil, drop-nil, take-suc-set, drop-set-lt, drop-cons}
+use lib.Pow.{pow-pos}
+use lib.Bits.{bitAnd, bitOr, or-lt, or-add-and, and-le-l, and-le-r}
 use borrow.Author.Count.{below-more}
 use Rattle.coding.specs.Lists.{first, zeros, padded, tabulate}
+use Rattle.coding.specs.Matrix.{Inside}
 use Rattle.coding.proofs.ListLaws.{getD-map, length-tabulate, getD-tabulate}
 use Rattle.coding.proofs.SearchLaws.{first-is}
 
@@ -113,6 +116,33 @@ module _ (f : ℕ → ℕ) (m : ℕ) {old : List ℕ} {i : ℕ} {l : List ℕ} (
 
   pub over-tabulate-full : m ≡ length old → length old ≤ i → l ≡ tabulate f m
   over-tabulate-full e h = over-full O (length-tabulate f m ∙ e) h
+
+-- ---- the first i words joined, a one wherever one of them has one: it has n places exactly when each of them has
+
+pub record Gathered (n : ℕ) (l : List ℕ) (i all : ℕ) : Type 0 where
+  pub within : i ≤ length l
+  pub each : all < 2 ^ n → (j : ℕ) → j < i → getD l j 0 < 2 ^ n
+  pub joint : ((j : ℕ) → j < i → getD l j 0 < 2 ^ n) → all < 2 ^ n
+
+pub gathered-start : (n : ℕ) (l : List ℕ) → Gathered n l 0 0
+gathered-start n l = record { within = omega arith; each = λ h j k. absurd (omega arith); joint = λ f. pow-pos n }
+
+module _ {n : ℕ} {l : List ℕ} {i all : ℕ} (G : Gathered n l i all) where
+  pub gathered-step : i < length l → Gathered n l (i + 1) (bitOr all (getD l i 0))
+  gathered-step more =
+      let x = getD l i 0 in
+      let e : bitOr all x + bitAnd all x ≡ all + x = or-add-and all x in
+      record {
+        within = omega arith;
+        each = λ h. below-more _ _ (G .each (omega (arith, e, h, and-le-r all x))) (omega (arith, e, h, and-le-l all x));
+        joint = λ f. or-lt n all x (G .joint (λ j k. f j (omega arith))) (f i (omega arith));
+      }
+
+  pub gathered-each : length l ≤ i → all < 2 ^ n → Inside n l
+  gathered-each h a j k = G .each a j (omega arith)
+
+  pub gathered-joint : Inside n l → all < 2 ^ n
+  gathered-joint f = G .joint (λ j k. f j (omega (arith, k, G .within)))
 
 suc-less : (k : ℕ) → k ≡ suc k - 1
 suc-less k = omega arith

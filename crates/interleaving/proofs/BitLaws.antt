@@ -3,14 +3,13 @@ use mathlib.Core.Path.{_≡_, refl, sym}
 use mathlib.Core.Logic.{_≢_}
 use mathlib.Core.List.{List}
 use mathlib.Core.Bool.{Bool, true, false}
-use Prim.Native.Nat.{ℕ, _+_, _*_, _≤_, _<_}
+use Prim.Native.Nat.{ℕ, _*_, _≤_, _<_}
 use native.Mathlib.Omega.{arith}
 use lib.Dec.{eqb, leb, ltb}
-use lib.ListN.{length, getD}
-use lib.Bits.{bitAnd, bitOr, or-lt, or-add-and, and-le-l, and-le-r}
+use lib.ListN.{length}
 use borrow.Author.Tests.{leb-true, le-leb, lt-leb, eqb-true, eq-eqb, ne-eqb, ltb-true, ltb-false}
-use borrow.Author.Count.{below-more}
 use Rattle.coding.specs.Matrix.{Inside}
+use Rattle.coding.proofs.LoopLaws.{Gathered, gathered-each, gathered-joint}
 use Rattle.words.specs.Limits.{maxDepth}
 use Rattle.words.specs.Refusal.{unless}
 use Rattle.words.specs.Shape.{firstOutside}
@@ -69,32 +68,13 @@ module _ (n L : ℕ) (bits : List ℕ) where
       let (a, b) = andThen-done (lengthAnswer n L (length bits)) _ e in
       (length-in n L (length bits) a, outside-none 1 bits (eqb-true (firstOutside 1 bits) (length bits) (unless-done (onlyBits bits) NoBits Done b .0)))
 
--- ---- the bytes joined: below 2 exactly when each of them is
+-- ---- the bytes joined
 
-pub record Gathered (bits : List ℕ) (b all : ℕ) : Type 0 where
-  pub within : b ≤ length bits
-  pub each : all < 2 → (c : ℕ) → c < b → getD bits c 0 < 2
-  pub joint : ((c : ℕ) → c < b → getD bits c 0 < 2) → all < 2
-
-pub gathered-start : (bits : List ℕ) → Gathered bits 0 0
-gathered-start bits = record { within = omega arith; each = λ h c k. absurd (omega arith); joint = λ f. omega arith }
-
-module _ {bits : List ℕ} {b all : ℕ} (G : Gathered bits b all) where
-  pub gathered-step : b < length bits → Gathered bits (b + 1) (bitOr all (getD bits b 0))
-  gathered-step more =
-      let x = getD bits b 0 in
-      let e : bitOr all x + bitAnd all x ≡ all + x = or-add-and all x in
-      record {
-        within = omega arith;
-        each = λ h. below-more _ _ (G .each (omega (arith, e, h, and-le-r all x))) (omega (arith, e, h, and-le-l all x));
-        joint = λ f. or-lt 1 all x (G .joint (λ c k. f c (omega arith))) (f b (omega arith));
-      }
-
-  pub gathered-end : length bits ≤ b → ltb all 2 ≡ onlyBits bits
-  gathered-end h = go (ltb all 2) refl
-    where
-      go : (t : Bool) → ltb all 2 ≡ t → t ≡ onlyBits bits
-      go true e =
-          sym (eq-eqb (firstOutside 1 bits) (length bits) (inside-none 1 bits (λ c k. G .each (ltb-true all 2 e) c (omega arith))))
-      go false e = sym (ne-eqb (firstOutside 1 bits) (length bits)
-          (λ z. absurd (omega (arith, ltb-false all 2 e, G .joint (λ c k. outside-none 1 bits z c (omega (arith, k, G .within)))))))
+pub bits-test : (bits : List ℕ) (b all : ℕ) → Gathered 1 bits b all → length bits ≤ b → ltb all 2 ≡ onlyBits bits
+bits-test bits b all G h = go (ltb all 2) refl
+  where
+    go : (t : Bool) → ltb all 2 ≡ t → t ≡ onlyBits bits
+    go true e = sym (eq-eqb (firstOutside 1 bits) (length bits) (inside-none 1 bits (gathered-each G h (ltb-true all 2 e))))
+    go false e =
+        sym (ne-eqb (firstOutside 1 bits) (length bits)
+        (λ z. absurd (omega (arith, ltb-false all 2 e, gathered-joint G (outside-none 1 bits z)))))

@@ -1,8 +1,8 @@
 -- Laws of the loop that sorts back one word, from its highest place to its lowest. Assumes nothing.
-use mathlib.Core.Path.{_≡_, sym, ap, subst, _∙_}
+use mathlib.Core.Path.{_≡_, refl, sym, ap, subst, _∙_}
 use mathlib.Core.List.{List}
-use Prim.Native.Nat.{ℕ, _+_, _-_, _*_, _%_, _^_, _≤_, _<_}
-use native.Mathlib.Nat.{mul-add, mul-one}
+use Prim.Native.Nat.{ℕ, zero, suc, _+_, _-_, _*_, _%_, _^_, _≤_, _<_}
+use native.Mathlib.Nat.{mul-add, mul-one, mul-zero, zero-add}
 use native.Mathlib.Omega.{arith}
 use lib.ListN.{length, getD}
 use Rattle.coding.specs.Lists.{tabulate}
@@ -18,12 +18,12 @@ pub record Sorting (n L : ℕ) (bits : List ℕ) (i w j b : ℕ) : Type 0 where
   pub word : Joined (λ q. getD bits (L * q + i) 0) (tabulate (λ q. q) n) j w
   pub at : b ≡ L * j + i
 
-pub sorting-start : (n L : ℕ) (bits : List ℕ) (i : ℕ) → n ≤ 32 → length bits ≡ L * n → Sorting n L bits i 0 n (length bits + i)
-sorting-start n L bits i h e = record {
+pub sorting-start : (n L : ℕ) (bits : List ℕ) (i : ℕ) → n ≤ 32 → Sorting n L bits i 0 n (L * n + i)
+sorting-start n L bits i h = record {
   word = let long : length (tabulate (λ q. q) n) ≡ n = length-tabulate (λ q. q) n in
       let J : Joined (λ q. getD bits (L * q + i) 0) (tabulate (λ q. q) n) (length (tabulate (λ q. q) n)) 0 = joined-start _ (rw long h) in
       subst (λ (x : ℕ). Joined (λ q. getD bits (L * q + i) 0) (tabulate (λ q. q) n) x 0) long J;
-  at = ap (λ (x : ℕ). x + i) e;
+  at = refl;
 }
 
 module _ {n L : ℕ} {bits : List ℕ} {i w j b : ℕ} (S : Sorting n L bits i w j b) (more : 0 < j) where
@@ -51,5 +51,11 @@ module _ {n L : ℕ} {bits : List ℕ} {i w j b : ℕ} (S : Sorting n L bits i w
     at = next;
   }
 
-pub sorting-end : {n L : ℕ} {bits : List ℕ} {i w j b : ℕ} → Sorting n L bits i w j b → j ≤ 0 → w ≡ sortedWord n L bits i
-sorting-end S h = joined-end (S .word) h
+-- a place is left exactly where L more bits are
+pub sorting-more : {n L : ℕ} {bits : List ℕ} {i w : ℕ} (j : ℕ) {b : ℕ} → Sorting n L bits i w j b → i < L → L ≤ b → 0 < j
+sorting-more {L = L} {i = i} zero {b} S h k = let e : b ≡ i = S .at ∙ rw (mul-zero L) (zero-add i) in absurd (omega (arith, e))
+sorting-more (suc j) S h k = omega arith
+
+pub sorting-end : {n L : ℕ} {bits : List ℕ} {i w : ℕ} (j : ℕ) {b : ℕ} → Sorting n L bits i w j b → b < L → w ≡ sortedWord n L bits i
+sorting-end zero S h = joined-end (S .word) (omega arith)
+sorting-end (suc j) S h = absurd (omega (arith, sorting-room S (omega arith)))

@@ -18,10 +18,8 @@ fn sorted_word(bits: &[u8], depth: usize, n: u32, i: usize) -> u32
     ensures { λ r. ⌜ r ≡ sortedWord n depth (now (bits .entry)) i ⌝ }
 {
     let mut w: u32 = 0;
-    let mut j = n;
-    let mut b = bits.len() + i;
-    while 0 < j {
-        j -= 1;
+    let mut b = depth * n as usize + i;
+    while depth <= b {
         b -= depth;
         w = (w << 1) ^ bits[b] as u32;
     }

@@ -7,6 +7,8 @@ use crate::limits::MAX_ROWS;
 use crate::limits::MIN_PLACES;
 use crate::word::fits;
 ghost use mathlib.Core.Path.{_≡_};
+ghost use mathlib.Core.Bool.{true};
+ghost use lib.ListN.{length};
 ghost use Rattle.words.specs.Limits.{inRange};
 ghost use Rattle.words.specs.Shape.{firstOutside, shapeAnswer};
 
@@ -32,10 +34,26 @@ pub fn in_range(n: u32, k: u32) -> bool
     n <= k + MAX_CHECKS as u32
 }
 
+// Whether every word has n places; they are joined, so that no test is made for each.
+fn all_inside(words: &[u32], n: u32) -> bool
+    ensures { λ r. ⌜ (r ≡ true → firstOutside n (now (words .entry)) ≡ length (now (words .entry))) ⌝ }
+{
+    let mut all: u32 = 0;
+    let mut i: usize = 0;
+    while i < words.len() {
+        all = all | words[i];
+        i += 1;
+    }
+    fits(all, n)
+}
+
 // The first word with a one at place n or beyond, or the number of words where there is none.
 pub fn first_outside(words: &[u32], n: u32) -> usize
     ensures { λ r. ⌜ r ≡ firstOutside n (now (words .entry)) ⌝ }
 {
+    if all_inside(words, n) {
+        return words.len();
+    }
     let mut i: usize = 0;
     while i < words.len() {
         if !fits(words[i], n) {

@@ -15,18 +15,22 @@ Inv-loop words n i₀ i = Searched (outside n words) (length words) i
 abbrev μ-loop : tie.MeasureT-loop
 μ-loop words n i₀ i = length words - i
 
+-- every word has n places
 returns : tie.Need-returns Inv-loop μ-loop
-returns c =
+returns c = sym (c .before .all-inside .ensures (c .if1 .taken))
+
+returns-2 : tie.Need-returns-2 Inv-loop μ-loop
+returns-2 c =
     let l = c .before .before .before in
-    search-hit (l .before .loop .inv) (l .loop-test .taken) (ap not (sym (c .before .fits2 .ensures)) ∙ c .if1 .taken)
+    search-hit (l .before .loop .inv) (l .loop-test .taken) (ap not (sym (c .before .fits2 .ensures)) ∙ c .if2 .taken)
 
 loop-again : tie.Need-loop-again Inv-loop μ-loop
 loop-again c =
     let l = c .before .before .before in
-    search-next (l .before .loop .inv) (l .loop-test .taken) (ap not (sym (c .before .fits2 .ensures)) ∙ c .if1 .left)
+    search-next (l .before .loop .inv) (l .loop-test .taken) (ap not (sym (c .before .fits2 .ensures)) ∙ c .if2 .left)
 
 pub first-outside-spec : {M : Type 1} → statement M
 first-outside-spec =
     tie.close
-    (tie.spec Inv-loop μ-loop (λ c. search-start _ _) (λ c. search needs) (λ c. search needs) (λ c κs. search needs) returns (λ c. search needs)
-    (λ c. search needs) loop-again (λ c. search-end (c .before .loop .inv) (c .loop-test .left)))
+    (tie.spec Inv-loop μ-loop (λ c κs. search needs) returns (λ c. search-start _ _) (λ c. search needs) (λ c. search needs) (λ c κs. search needs)
+    returns-2 (λ c. search needs) (λ c. search needs) loop-again (λ c. search-end (c .before .loop .inv) (c .loop-test .left)))
