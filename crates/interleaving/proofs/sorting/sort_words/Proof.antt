@@ -20,7 +20,7 @@ start l = l .before .before .before
 sorted-word-requires : tie.Need-sorted-word-requires Inv-loop μ-loop
 sorted-word-requires c κs =
     let p = start (c .before) .pre in
-    (p .0, p .1, p .2, c .loop-test .taken, p .4)
+    (p .0, p .1, p .2, omega (arith, c .loop-test .taken), p .4)
 
 -- there is room
 room : (c : tie.After-sorted-word Inv-loop μ-loop) → c .before .before .loop .i < length (c .before .before .loop .out)
