@@ -24,10 +24,10 @@ use Rattle.coding.proofs.CheckLaws.{places-lt, places-bit}
 -- ---- bit numbers: b is L * (b / L) + b % L
 
 module _ (L : ℕ) (pos : 0 < L) where
-  at-div : (i j : ℕ) → i < L → (L * j + i) / L ≡ j
+  pub at-div : (i j : ℕ) → i < L → (L * j + i) / L ≡ j
   at-div i j h = mul-add-div pos j i ∙ omega (arith, div-eq-of-lt h)
 
-  at-mod : (i j : ℕ) → i < L → (L * j + i) % L ≡ i
+  pub at-mod : (i j : ℕ) → i < L → (L * j + i) % L ≡ i
   at-mod i j h = mul-add-mod-self-left L j i ∙ mod-eq-of-lt h
 
   place-below : (n b : ℕ) → b < L * n → b / L < n

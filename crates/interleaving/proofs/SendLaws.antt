@@ -1,17 +1,17 @@
 -- Laws of the loops that send: the places of a word are written at every L-th bit, word after word. Assumes nothing.
 use mathlib.Core.Path.{_≡_, refl, sym, ap, ap₂, subst, _∙_}
 use mathlib.Core.List.{List}
-use Prim.Native.Nat.{ℕ, _+_, _*_, _/_, _%_, _^_, _≤_, _<_}
-use native.Mathlib.Nat.{mod-lt, mod-le, div-add-mod, add-mod-right, add-div-right, div-eq-of-lt, mod-eq-of-lt, le-of-mul-le-mul-left, lt-of-mul-lt-mul-left, mul-add, mul-one, div-one}
+use Prim.Native.Nat.{ℕ, _+_, _*_, _/_, _%_, _≤_, _<_}
+use native.Mathlib.Nat.{mod-lt, mod-le, div-add-mod, le-of-mul-le-mul-left, lt-of-mul-lt-mul-left, mul-add, mul-one, mul-zero, zero-add}
 use native.Mathlib.Decide.{decLe}
 use native.Mathlib.Omega.{arith}
 use lib.ListN.{length, getD, set, length-set}
 use lib.Seq.{ext-getD, getD-set-same, getD-set-other}
-use lib.Pow.{shr-shr}
 use Rattle.coding.specs.Lists.{tabulate}
 use Rattle.coding.specs.Word.{bit}
 use Rattle.coding.specs.Interleaving.{sentBit}
 use Rattle.coding.proofs.ListLaws.{length-tabulate, getD-tabulate}
+use Rattle.coding.proofs.InterleavingLaws.{at-div, at-mod}
 use Rattle.interleaving.specs.Inner.Sent.{Sent}
 
 -- nothing is written yet
@@ -32,41 +32,43 @@ same-bit L b c pos e h k =
     let same : c / L ≡ b / L = omega arith in
     sym dc ∙ ap₂ (λ (x y : ℕ). L * x + y) same e ∙ db
 
--- in word i: the next bit is b, and what is left of the word are its places from there on
-pub record Sending (words : List ℕ) (m i : ℕ) (bits : List ℕ) (rest b : ℕ) : Type 0 where
+-- in word i: place j is next, as bit b
+pub record Sending (words : List ℕ) (m i : ℕ) (bits : List ℕ) (j b : ℕ) : Type 0 where
   pub sent : Sent words m i b bits
-  pub phase : b % length words ≡ i
-  pub left : rest ≡ getD words i 0 / 2 ^ (b / length words)
+  pub at : b ≡ length words * j + i
 
-pub sending-start : {words bits : List ℕ} {m i : ℕ} → i < length words → Sent words m i i bits → Sending words m i bits (getD words i 0) i
-sending-start {words} {i = i} h S = record {
-  sent = S;
-  phase = mod-eq-of-lt h;
-  left = sym (ap (λ (x : ℕ). getD words i 0 / 2 ^ x) (div-eq-of-lt h) ∙ div-one (getD words i 0));
-}
+pub sending-start : {words bits : List ℕ} {m i : ℕ} → Sent words m i i bits → Sending words m i bits 0 i
+sending-start {words} {i = i} S = record { sent = S; at = sym (rw (mul-zero (length words)) (zero-add i)) }
 
-module _ {words bits : List ℕ} {m i rest b : ℕ} (pos : 0 < length words) (S : Sending words m i bits rest b) where
-  -- the lowest place that is left is bit b
-  pub sending-bit : rest % 2 ≡ sentBit words b
-  sending-bit = ap (λ (x : ℕ). x % 2) (S .left) ∙ ap (λ (x : ℕ). bit (getD words x 0) (b / length words)) (sym (S .phase))
+module _ {words bits : List ℕ} {m i j b : ℕ} (below : i < length words) (S : Sending words m i bits j b) where
+  pos : 0 < length words
+  pos = omega arith
 
-  pub sending-step : (v : ℕ) → b < m → v ≡ sentBit words b → Sending words m i (set bits b v) (rest / 2 ^ 1) (b + length words)
+  phase : b % length words ≡ i
+  phase = rw (S .at) (at-mod (length words) pos i j below)
+
+  -- a machine word has place j
+  pub sending-place : b < m → m ≤ length words * 32 → j < 32
+  sending-place h k = lt-of-mul-lt-mul-left (length words) (omega (arith, S .at, h, k))
+
+  pub sending-bit : bit (getD words i 0) j ≡ sentBit words b
+  sending-bit = sym (ap₂ (λ (x y : ℕ). bit (getD words x 0) y) phase (rw (S .at) (at-div (length words) pos i j below)))
+
+  pub sending-step : (v : ℕ) → b < m → v ≡ sentBit words b → Sending words m i (set bits b v) (j + 1) (b + length words)
   sending-step v h e = record {
     sent = record {
       long = length-set bits b v ∙ S .sent .long;
       words-sent = λ c k l.
-          getD-set-other bits b c v 0 (λ z. absurd (omega (arith, l, S .phase, ap (λ (x : ℕ). x % length words) z))) ∙ S .sent .words-sent c k l;
+          getD-set-other bits b c v 0 (λ z. absurd (omega (arith, l, phase, ap (λ (x : ℕ). x % length words) z))) ∙ S .sent .words-sent c k l;
       places-sent = λ c k p l. go c k p l (decLe b c);
     };
-    phase = add-mod-right b (length words) ∙ S .phase;
-    left = ap (λ (x : ℕ). x / 2 ^ 1) (S .left) ∙ shr-shr (getD words i 0) (b / length words) 1
-        ∙ ap (λ (x : ℕ). getD words i 0 / 2 ^ x) (sym (add-div-right b pos));
+    at = omega (arith, S .at, mul-add (length words) j 1, mul-one (length words));
   }
     where
       go : (c : ℕ) → c < m → c % length words ≡ i → c < b + length words → Dec (b ≤ c) → getD (set bits b v) c 0 ≡ sentBit words c
       go c k p l (no n) = getD-set-other bits b c v 0 (λ z. absurd (omega arith)) ∙ S .sent .places-sent c k p (omega arith)
       go c k p l (yes n) =
-          let z : c ≡ b = same-bit (length words) b c pos (p ∙ sym (S .phase)) n l in
+          let z : c ≡ b = same-bit (length words) b c pos (p ∙ sym phase) n l in
           rw z (getD-set-same bits b v 0 (rw (S .sent .long) h) ∙ e)
 
   -- past the last bit the word is sent

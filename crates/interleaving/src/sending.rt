@@ -4,31 +4,33 @@ use linear::accept;
 use words::answer::Answer;
 use words::lists::inside_cause;
 ghost use mathlib.Core.Path.{_≡_};
-ghost use Prim.Native.Nat.{_+_, _<_};
+ghost use Prim.Native.Nat.{_+_, _*_, _≤_, _<_};
 ghost use lib.ListN.{length};
 ghost use Rattle.coding.specs.Lists.{tabulate};
 ghost use Rattle.coding.specs.Interleaving.{sentBit};
+ghost use Rattle.words.specs.Limits.{width};
 ghost use Rattle.interleaving.specs.Interleaved.{Interleaved};
 ghost use Rattle.interleaving.specs.Inner.Sent.{Sent};
 
 // Writes the places of word i, lowest first, as the bits i, L + i, 2 L + i and so on.
 fn send_word(words: &[u32], i: usize, bits: &mut [u8])
-    requires { ⌜ i < length (now words) ⌝ }
+    requires { ⌜ (i < length (now words)) × (length (now bits) ≤ length (now words) * width) ⌝ }
     requires { ⌜ Sent (now words) (length (now bits)) i i (now bits) ⌝ }
     ensures { λ _. ⌜ Sent (now (words .entry)) (length (now (bits .entry))) (i + 1) (i + 1) (now (bits .exit)) ⌝ }
 {
-    let mut rest = words[i];
+    let word = words[i];
+    let mut j: u32 = 0;
     let mut b = i;
     while b < bits.len() {
-        bits[b] = (rest & 1) as u8;
-        rest = rest >> 1;
+        bits[b] = ((word >> j) & 1) as u8;
+        j += 1;
         b += words.len();
     }
 }
 
 // Writes every bit.
 fn send_words(words: &[u32], bits: &mut [u8])
-    requires { ⌜ 0 < length (now words) ⌝ }
+    requires { ⌜ (0 < length (now words)) × (length (now bits) ≤ length (now words) * width) ⌝ }
     ensures { λ _. ⌜ now (bits .exit) ≡ tabulate (sentBit (now (words .entry))) (length (now (bits .entry))) ⌝ }
 {
     let mut i: usize = 0;

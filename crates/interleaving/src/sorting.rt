@@ -5,23 +5,35 @@ use words::answer::Answer;
 use words::lists::room_cause;
 ghost use mathlib.Core.Path.{_≡_};
 ghost use mathlib.Core.List.{_++_};
-ghost use Prim.Native.Nat.{_*_, _≤_, _<_};
+ghost use Prim.Native.Nat.{_*_, _%_, _^_, _≤_, _<_};
 ghost use lib.ListN.{length, drop};
+ghost use Rattle.coding.specs.Word.{_⊕_};
 ghost use Rattle.coding.specs.Matrix.{Inside};
 ghost use Rattle.coding.specs.Interleaving.{sortedWord, sortedWords};
 ghost use Rattle.words.specs.Limits.{width, maxDepth};
 ghost use Rattle.interleaving.specs.Deinterleaved.{Deinterleaved};
 
-// Word i, its places read from the highest to the lowest.
+// The word with each place one higher, and the bit as its lowest.
+fn with_lowest(w: u32, bit: u8) -> u32
+    ensures { λ r. ⌜ r ≡ (w * 2 ^ 1) % 2 ^ 32 ⊕ bit ⌝ }
+{
+    (w << 1) ^ bit as u32
+}
+
+// Word i, its places read from the highest to the lowest, two a turn.
 fn sorted_word(bits: &[u8], depth: usize, n: u32, i: usize) -> u32
     requires { ⌜ (length (now bits) ≡ depth * n) × Inside 1 (now bits) × (n ≤ width) × (i < depth) × (depth ≤ maxDepth) ⌝ }
     ensures { λ r. ⌜ r ≡ sortedWord n depth (now (bits .entry)) i ⌝ }
 {
     let mut w: u32 = 0;
     let mut b = depth * n as usize + i;
-    while depth <= b {
-        b -= depth;
-        w = (w << 1) ^ bits[b] as u32;
+    while 2 * depth <= b {
+        w = with_lowest(w, bits[b - depth]);
+        b -= 2 * depth;
+        w = with_lowest(w, bits[b]);
+    }
+    if depth <= b {
+        return with_lowest(w, bits[b - depth]);
     }
     w
 }

@@ -1,9 +1,14 @@
 -- `interleaving::sending::interleave`: the causes in turn, then the bits. Assumes nothing.
 use mathlib.Core.Path.{_≡_, sym, _∙_}
+use Prim.Native.Nat.{_≤_}
+use native.Mathlib.Nat.{mul-le-mul-left}
+use native.Mathlib.Omega.{arith}
 use lib.ListN.{length}
 use borrow.Author.Needs.{needs}
 use Rattle.words.specs.Accepted.{matrixAnswer}
 use Rattle.words.specs.declared.answer.Answer.the-variants.{Done}
+use Rattle.words.specs.Limits.{width}
+use Rattle.words.proofs.AcceptedLaws.{accepted-in}
 use Rattle.words.proofs.AnswerLaws.{stays, goes}
 use Rattle.interleaving.specs.Causes.{lengthAnswer}
 use Rattle.interleaving.proofs.BitLaws.{length-in}
@@ -63,7 +68,10 @@ send-words-requires : tie.Need-send-words-requires
 send-words-requires c κs =
     let r = c .before .before .before in
     let a = start-right r .args in
-    length-in (a .n) (length (a .words .now)) (length (a .bits .now)) (right r) .positive
+    let F = length-in (a .n) (length (a .words .now)) (length (a .bits .now)) (right r) in
+    let A = accepted-in (a .n) (a .k) (a .rows .now) (passed (r .before .before .before)) in
+    let w : a .n ≤ width = omega (arith, A .range .places) in
+    (F .positive, rw (F .long) (mul-le-mul-left (length (a .words .now)) w))
 
 returns-4 : tie.Need-returns-4
 returns-4 c =

@@ -18,7 +18,10 @@ abbrev start : tie.At-loop Inv-loop μ-loop → tie.Start Inv-loop μ-loop
 start l = l .before .before .before
 
 send-word-requires : tie.Need-send-word-requires Inv-loop μ-loop
-send-word-requires c κs = let S = c .before .before .loop .inv in (c .before .loop-test .taken, sent-of (sym (S .long)) S)
+send-word-requires c κs =
+    let l = c .before .before in
+    let S = l .loop .inv in
+    ((c .before .loop-test .taken, rw (S .long) (start l .pre .1)), sent-of (sym (S .long)) S)
 
 loop-again : tie.Need-loop-again Inv-loop μ-loop
 loop-again c =
@@ -26,7 +29,7 @@ loop-again c =
     sent-of (w .before .before .before .loop .inv .long) (w .send-word .ensures)
 
 returns : tie.Need-returns Inv-loop μ-loop
-returns c = sent-end _ _ _ _ (start (c .before) .pre) (c .loop-test .left) (c .before .loop .inv)
+returns c = sent-end _ _ _ _ (start (c .before) .pre .0) (c .loop-test .left) (c .before .loop .inv)
 
 pub send-words-spec : {M : Type 1} → statement M
 send-words-spec =
