@@ -42,12 +42,12 @@ module _ (L : ℕ) (pos : 0 < L) where
 
 module _ (n : ℕ) (words : List ℕ) where
   interleaved-long : length (interleaved n words) ≡ length words * n
-  interleaved-long = length-tabulate (sentBit words) (length words * n)
+  interleaved-long = length-tabulate _ (length words * n)
 
   pub sent-bit : (i j : ℕ) → i < length words → j < n → getD (interleaved n words) (length words * j + i) 0 ≡ bit (getD words i 0) j
   sent-bit i j h k =
       let pos : 0 < length words = omega arith in
-      getD-tabulate (sentBit words) (length words * n) _ (bit-below (length words) pos n i j h k)
+      getD-tabulate _ (length words * n) _ (bit-below (length words) pos n i j h k)
       ∙ ap₂ (λ (x y : ℕ). bit (getD words x 0) y) (at-mod (length words) pos i j h) (at-div (length words) pos i j h)
 
   pub sent-bits : Inside 1 (interleaved n words)
