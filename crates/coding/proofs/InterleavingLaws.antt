@@ -4,7 +4,8 @@ use mathlib.Core.Path.{_≡_, sym, ap, ap₂, _∙_}
 use mathlib.Core.Logic.{_⊎_, inl, inr}
 use mathlib.Core.List.{List}
 use Prim.Native.Nat.{ℕ, zero, suc, _+_, _-_, _*_, _/_, _%_, _^_, _≤_, _<_, suc-le-suc}
-use native.Mathlib.Nat.{mod-lt, mul-add-div, mul-add-mod-self-left, div-eq-of-lt, mod-eq-of-lt, div-add-mod, div-lt-iff-lt-mul, le-div-iff-mul-le, lt-div-mul-add, mul-le-mul-right, mul-comm, add-mul}
+use native.Mathlib.Nat.{mod-lt, mul-add-div, mul-add-mod-self-left, div-eq-of-lt, mod-eq-of-lt, div-add-mod, div-lt-iff-lt-mul}
+use native.Mathlib.Nat.{le-div-iff-mul-le, lt-div-mul-add, mul-le-mul-right, mul-comm, add-mul}
 use native.Mathlib.Decide.{decLe}
 use native.Mathlib.Omega.{arith}
 use lib.ListN.{length, getD, take, List·getD-eq-default}

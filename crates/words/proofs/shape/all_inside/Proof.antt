@@ -22,7 +22,8 @@ returns : tie.Need-returns Inv-loop μ-loop
 returns c t =
     let l = c .before .before in
     let a = l .before .before .args in
-    inside-none (a .n) (a .words .now) (gathered-each (l .loop .inv) (c .before .loop-test .left) (ltb-true (l .loop .all) (2 ^ a .n) (sym (c .fits2 .ensures) ∙ t)))
+    let joined = ltb-true (l .loop .all) (2 ^ a .n) (sym (c .fits2 .ensures) ∙ t) in
+    inside-none (a .n) (a .words .now) (gathered-each (l .loop .inv) (c .before .loop-test .left) joined)
 
 pub all-inside-spec : {M : Type 1} → statement M
 all-inside-spec =
