@@ -167,6 +167,9 @@ static void burst(uint32_t radius)
 static void small_bits(void) { dense(7, 4); burst(0); }
 static void wide_bits(void) { dense(28, 16); burst(0); }
 
+/* The first three words alone, and bits for as many. */
+static void few_bits(void) { small_bits(); in.count = in.prepared = 3; }
+
 /* The later eight words: the run with the first eight is subtracted. */
 static void later_bits(void) { wide_bits(); in.fewer = DEPTH / 2; }
 
@@ -406,9 +409,11 @@ const Case cases[] = {
     WORDS_CASE("decode, 1 changed place", damaged),
     WORDS_CASE("decode, random words", any_words),
     BITS_CASE("interleave (7,4)", small_bits, interleave, DEPTH * 7),
+    BITS_CASE("interleave (7,4), three words", few_bits, interleave, 3 * 7),
     BITS_CASE("interleave (28,16)", wide_bits, interleave, DEPTH * 28),
     LATER_CASE("interleave (28,16), later words", interleave),
     BITS_CASE("deinterleave (7,4)", small_bits, deinterleave, DEPTH * 7),
+    BITS_CASE("deinterleave (7,4), three words", few_bits, deinterleave, 3 * 7),
     BITS_CASE("deinterleave (28,16)", wide_bits, deinterleave, DEPTH * 28),
     LATER_CASE("deinterleave (28,16), later words", deinterleave),
     BURST_CASE("decode within 1, (7,4)", small_burst, DEPTH * 7),
