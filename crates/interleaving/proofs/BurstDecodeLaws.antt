@@ -1,5 +1,5 @@
 -- What the decode promises: its causes and their numbers, and bursts from demand 3 of each word. Assumes nothing.
-use mathlib.Core.Path.{_≡_, refl, sym, ap, _∙_}
+use mathlib.Core.Path.{_≡_, refl, sym, ap, subst, _∙_}
 use mathlib.Core.Logic.{_⊎_, _≢_, inl, inr}
 use mathlib.Core.List.{List, map, _++_}
 use Prim.Native.Nat.{ℕ, _*_, _≤_, _<_}
@@ -22,6 +22,7 @@ use Rattle.words.specs.declared.answer.Answer.the-variants.{Done, Refused}
 use Rattle.words.proofs.AnswerLaws.{refused-done, stays, goes, Numbered, unless-numbered, andThen-numbered, numbered-as, Between}
 use Rattle.words.proofs.AcceptedLaws.{shape-refused}
 use Rattle.outcomes.specs.Outcome.{wordOf}
+use Rattle.outcomes.specs.declared.ending.Reading.{Reading}
 use Rattle.outcomes.specs.declared.ending.Reading.the-variants.{Within}
 use Rattle.decoder.specs.Causes.{codeAnswer, listsAnswer, decodeAnswer}
 use Rattle.decoder.specs.Decoded.{Lent, Decoded}
@@ -96,6 +97,13 @@ module _ (n k : ℕ) (rows : List ℕ) (ρ L : ℕ) (bits : List ℕ) (slots byt
   other-number c e = rw e at numbered
 
 -- ---- the promise
+
+-- Decode's, of words that are named in another way
+pub decoded-of : {n k : ℕ} {rows ws vs : List ℕ} {reading : Reading} {before after : Lent} {r : Answer} → ws ≡ vs
+    → Decoded (record { n = n; k = k; rows = rows; reading = reading; words = ws }) before r after
+    → Decoded (record { n = n; k = k; rows = rows; reading = reading; words = vs }) before r after
+decoded-of {n} {k} {rows} {reading = reading} {before} {after} {r} e D =
+    subst (λ (x : List ℕ). Decoded (record { n = n; k = k; rows = rows; reading = reading; words = x }) before r after) e D
 
 module _ (R : Received) (before : Lent) where
   abbrev answerTo : Answer

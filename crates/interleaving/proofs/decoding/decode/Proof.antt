@@ -11,7 +11,7 @@ use Rattle.decoder.specs.Decoded.{Lent}
 use Rattle.interleaving.specs.Causes.{bitsAnswer}
 use Rattle.interleaving.specs.Decoded.{Received}
 use Rattle.interleaving.proofs.BitLaws.{bits-in}
-use Rattle.interleaving.proofs.BurstDecodeLaws.{too-long, bits-refused, decode-refused, bits-refuse, decode-ends}
+use Rattle.interleaving.proofs.BurstDecodeLaws.{too-long, bits-refused, decoded-of, decode-refused, bits-refuse, decode-ends}
 use Rattle.interleaving.proofs.decoding.decode.Statement.{statement}
 use Rattle.interleaving.proofs.decoding.decode.Tie as tie
 
@@ -89,7 +89,7 @@ returns-3 c =
     let d = decoded c in
     let w = d .before .before .before .before .before .before in
     let s = asked (sorted (w .before)) in
-    decode-ends (received s) (lent s) (right (w .before)) _ _ (rw (words-are w) at (d .decode .ensures))
+    decode-ends (received s) (lent s) (right (w .before)) _ _ (decoded-of (words-are w) (d .decode .ensures))
 
 pub decode-spec : {M : Type 1} → statement M
 decode-spec =
