@@ -46,13 +46,19 @@ bool same(void)
     return done && (in.tried == 0 || ours.tried == in.tried) && memcmp(&ours, &theirs, sizeof ours) == 0;
 }
 
+/* The number with ones at so many places, up to 32, alone. */
+static uint32_t ones_below(uint32_t places)
+{
+    return (uint32_t)((UINT64_C(1) << places) - 1);
+}
+
 /* Random rows that are independent: the identity on the first k places, and rows added to rows. */
 static void dense(uint32_t n, uint32_t k)
 {
     in.n = n;
     in.k = k;
     for (uint32_t i = 0; i < k; i++)
-        in.rows[i] = 1u << i | ((uint32_t)(next() >> 20) & ((1u << n) - (1u << k)));
+        in.rows[i] = 1u << i | ((uint32_t)(next() >> 20) & (ones_below(n) ^ ones_below(k)));
     for (uint32_t i = 0; i < 4 * k; i++) {
         uint32_t a = (uint32_t)(next() >> 33) % k, b = (uint32_t)(next() >> 33) % k;
         if (a != b)
@@ -74,7 +80,7 @@ static void random_words(uint32_t places)
 {
     in.count = in.prepared = WORDS;
     for (size_t i = 0; i < WORDS; i++)
-        in.words[i] = (uint32_t)(next() >> 20) & ((1u << places) - 1);
+        in.words[i] = (uint32_t)(next() >> 20) & ones_below(places);
 }
 
 /* Codewords with so many changed places. */
@@ -92,23 +98,25 @@ static void sent(int changed)
 static void small_code(void) { dense(7, 4); }
 static void middle_code(void) { dense(23, 12); }
 static void dense_code(void) { dense(28, 16); }
+static void longest_code(void) { dense(RELAY_MAX_PLACES, RELAY_MAX_ROWS); }
 
-/* Rows with a single one, from this place on: in the twelve other places no codeword has a one. */
-static void single_places(uint32_t first)
+/* So many rows with a single one, from this place on: in the twelve other places no codeword has a one. */
+static void single_places(uint32_t k, uint32_t first)
 {
-    in.n = 28;
-    in.k = 16;
-    for (uint32_t i = 0; i < 16; i++)
+    in.n = k + 12;
+    in.k = k;
+    for (uint32_t i = 0; i < k; i++)
         in.rows[i] = 1u << (first + i);
 }
 
-static void single_code(void) { single_places(0); }
+static void single_code(void) { single_places(16, 0); }
 
 /* The zero places at the high end: every word of weight up to 12 is tried. */
-static void worst_code(void) { single_places(0); in.tried = 76717268; }
+static void worst_code(void) { single_places(16, 0); in.tried = 76717268; }
+static void worst_longest_code(void) { single_places(20, 0); in.tried = 462411533; }
 
 /* The zero places first: of weight 12 the words up to the one that has all of them. */
-static void zeros_first_code(void) { single_places(12); in.tried = 46295514; }
+static void zeros_first_code(void) { single_places(16, 12); in.tried = 46295514; }
 
 /* The perfect Golay code: its leaders are the words of weight up to 3, so that they take little of a call's time. */
 static void perfect_code(void)
@@ -345,54 +353,55 @@ static void sheet_middle(void) { sheet(23, 12, -1); }
 static void sheet_other(void) { sheet(23, 11, -1); }
 static void sheet_dense(void) { sheet(28, 16, -1); }
 static void sheet_within(void) { sheet(28, 16, 1); }
+static void sheet_longest(void) { sheet(RELAY_MAX_PLACES, RELAY_MAX_ROWS, -1); }
 static void run_ours(void) { ours.length = relay_run(in.sheet, in.sheet_len, ours.out, sizeof ours.out); }
 static void run_plain(void) { theirs.length = plain_run(in.sheet, in.sheet_len, theirs.out, sizeof theirs.out); }
 
 #define TABLES {.blocks = true, .loops = true, .tables = true}
 
 #define DESCRIBE_CASE(name, prepare)                                                                                              \
-    {"Describe", name, "Gray walk", prepare, describe_ours, describe_plain, {0}, 1, true, false},                                 \
-    {"Describe", name, "walk in blocks", prepare, describe_ours, describe_plain, {.blocks = true}, 1, true, false}
+    {"Describe", name, "Gray walk", prepare, describe_ours, describe_plain, {0}, 1, true, false, false},                          \
+    {"Describe", name, "walk in blocks", prepare, describe_ours, describe_plain, {.blocks = true}, 1, true, false, false}
 
-#define LEADERS_CASE(name, prepare)                                                                                               \
-    {"Leaders", name, "recursion", prepare, leaders_ours, leaders_plain, {0}, 1, false, false},                                   \
-    {"Leaders", name, "last two ones in loops", prepare, leaders_ours, leaders_plain, {.loops = true}, 1, false, false}
+#define LEADERS_CASE(name, prepare, timed)                                                                                        \
+    {"Leaders", name, "recursion", prepare, leaders_ours, leaders_plain, {0}, 1, false, false, timed},                            \
+    {"Leaders", name, "last two ones in loops", prepare, leaders_ours, leaders_plain, {.loops = true}, 1, false, false, timed}
 
 #define WORDS_CASE(name, prepare)                                                                                                 \
-    {"Words, perfect (23,12)", name, "parities", prepare, decode_ours, decode_plain, {.loops = true}, WORDS, true, true},           \
-    {"Words, perfect (23,12)", name, "tables of syndromes", prepare, decode_ours, decode_plain, TABLES, WORDS, true, true}
+    {"Words, perfect (23,12)", name, "parities", prepare, decode_ours, decode_plain, {.loops = true}, WORDS, true, true, false},  \
+    {"Words, perfect (23,12)", name, "tables of syndromes", prepare, decode_ours, decode_plain, TABLES, WORDS, true, true, false}
 
 #define BITS_CASE(name, prepare, f, bits)                                                                                         \
-    {"Interleaving", name, "word by word", prepare, f##_ours, f##_plain, {0}, bits, false, true},                                 \
-    {"Interleaving", name, "place by place", prepare, f##_ours, f##_plain, {.places = true}, bits, false, true}
+    {"Interleaving", name, "word by word", prepare, f##_ours, f##_plain, {0}, bits, false, true, false},                          \
+    {"Interleaving", name, "place by place", prepare, f##_ours, f##_plain, {.places = true}, bits, false, true, false}
 
 #define LATER_CASE(name, f)                                                                                                       \
-    {"Interleaving", name, "word by word", later_bits, f##_ours, f##_plain, {0}, DEPTH / 2 * 28, false, true}
+    {"Interleaving", name, "word by word", later_bits, f##_ours, f##_plain, {0}, DEPTH / 2 * 28, false, true, false}
 
 #define BURST_CASE(name, prepare, bits)                                                                                           \
     {"Interleaving", name, "word by word, quick", prepare, decode_bits_ours, decode_bits_plain, {.blocks = true, .loops = true},  \
-     bits, true, false},                                                                                                          \
-    {"Interleaving", name, "relay_decode of the words", prepare, decode_bits_ours, decode_bits_words, {0}, bits, false, false}
+     bits, true, false, false},                                                                                                   \
+    {"Interleaving", name, "relay_decode of the words", prepare, decode_bits_ours, decode_bits_words, {0}, bits, false, false, false}
 
 #define GOLAY_CASE(name, prepare)                                                                                                 \
-    {"Golay", name, "000's steps", prepare, golay_decode_ours, golay_decode_steps, {0}, FIXED, true, false},                      \
-    {"Golay", name, "twelve tests side by side", prepare, golay_decode_ours, golay_decode_lanes, {0}, FIXED, true, false},        \
-    {"Golay", name, "table of 4,096 patterns", prepare, golay_decode_ours, golay_decode_table, {0}, FIXED, true, false}
+    {"Golay", name, "000's steps", prepare, golay_decode_ours, golay_decode_steps, {0}, FIXED, true, false, false},               \
+    {"Golay", name, "twelve tests side by side", prepare, golay_decode_ours, golay_decode_lanes, {0}, FIXED, true, false, false}, \
+    {"Golay", name, "table of 4,096 patterns", prepare, golay_decode_ours, golay_decode_table, {0}, FIXED, true, false, false}
 
 #define HSIAO_CASE(name, prepare)                                                                                                 \
-    {"(72,64)", name, "folds and a scan", prepare, hsiao_decode_ours, hsiao_decode_folds, {0}, FIXED, false, false},              \
-    {"(72,64)", name, "diagonals and a scan", prepare, hsiao_decode_ours, hsiao_decode_diagonals, {0}, FIXED, false, false},      \
-    {"(72,64)", name, "tables of 256", prepare, hsiao_decode_ours, hsiao_decode_tables, {0}, FIXED, false, false}
+    {"(72,64)", name, "folds and a scan", prepare, hsiao_decode_ours, hsiao_decode_folds, {0}, FIXED, false, false, false},       \
+    {"(72,64)", name, "diagonals and a scan", prepare, hsiao_decode_ours, hsiao_decode_diagonals, {0}, FIXED, false, false, false}, \
+    {"(72,64)", name, "tables of 256", prepare, hsiao_decode_ours, hsiao_decode_tables, {0}, FIXED, false, false, false}
 
 #define WIDTH_CASE(name, prepare, f)                                                                                              \
-    {"Widths", name, "diagonals and a scan", prepare, f##_ours, f##_plain, {0}, FIXED, false, false},                             \
-    {"Widths", name, "the (72,64) call", prepare, f##_ours, f##_64, {0}, FIXED, false, false},                                    \
-    {"Widths", name, "the same call, width 64", prepare, f##_ours, f##_wide, {0}, FIXED, false, false}
+    {"Widths", name, "diagonals and a scan", prepare, f##_ours, f##_plain, {0}, FIXED, false, false, false},                      \
+    {"Widths", name, "the (72,64) call", prepare, f##_ours, f##_64, {0}, FIXED, false, false, false},                             \
+    {"Widths", name, "the same call, width 64", prepare, f##_ours, f##_wide, {0}, FIXED, false, false, false}
 
 #define SHEET_CASE(name, prepare)                                                                                                 \
-    {"Sheets of 512 words", name, "plain", prepare, run_ours, run_plain, {0}, 1, true, false},                                    \
-    {"Sheets of 512 words", name, "quick", prepare, run_ours, run_plain, {.blocks = true, .loops = true}, 1, true, false},        \
-    {"Sheets of 512 words", name, "quick, tables", prepare, run_ours, run_plain, TABLES, 1, true, false}
+    {"Sheets of 512 words", name, "plain", prepare, run_ours, run_plain, {0}, 1, true, false, false},                             \
+    {"Sheets of 512 words", name, "quick", prepare, run_ours, run_plain, {.blocks = true, .loops = true}, 1, true, false, false}, \
+    {"Sheets of 512 words", name, "quick, tables", prepare, run_ours, run_plain, TABLES, 1, true, false, false}
 
 const Case cases[] = {
     DESCRIBE_CASE("random (7,4)", small_code),
@@ -400,11 +409,14 @@ const Case cases[] = {
     DESCRIBE_CASE("perfect (23,12)", perfect_code),
     DESCRIBE_CASE("dense (28,16)", dense_code),
     DESCRIBE_CASE("single places (28,16)", single_code),
-    LEADERS_CASE("dense (28,16)", dense_code),
-    LEADERS_CASE("zero places first (28,16)", zeros_first_code),
-    LEADERS_CASE("worst (28,16)", worst_code),
-    {"Words, perfect (23,12)", "encode", "row sums", messages, encode_ours, encode_plain, {0}, WORDS, false, true},
-    {"Words, perfect (23,12)", "read back", "parities", clean, message_ours, message_plain, {0}, WORDS, true, true},
+    DESCRIBE_CASE("dense (32,20)", longest_code),
+    LEADERS_CASE("dense (28,16)", dense_code, false),
+    LEADERS_CASE("dense (32,20)", longest_code, false),
+    LEADERS_CASE("zero places first (28,16)", zeros_first_code, false),
+    LEADERS_CASE("worst (28,16)", worst_code, false),
+    LEADERS_CASE("worst (32,20)", worst_longest_code, true),
+    {"Words, perfect (23,12)", "encode", "row sums", messages, encode_ours, encode_plain, {0}, WORDS, false, true, false},
+    {"Words, perfect (23,12)", "read back", "parities", clean, message_ours, message_plain, {0}, WORDS, true, true, false},
     WORDS_CASE("decode, clean", clean),
     WORDS_CASE("decode, 1 changed place", damaged),
     WORDS_CASE("decode, random words", any_words),
@@ -419,19 +431,19 @@ const Case cases[] = {
     BURST_CASE("decode within 1, (7,4)", small_burst, DEPTH * 7),
     BURST_CASE("decode within 3, perfect (23,12)", perfect_burst, DEPTH * 23),
     BURST_CASE("decode within 1, dense (28,16)", dense_burst, DEPTH * 28),
-    {"Golay", "encode", "row sums", golay_messages, golay_encode_ours, golay_encode_plain, {0}, FIXED, false, false},
+    {"Golay", "encode", "row sums", golay_messages, golay_encode_ours, golay_encode_plain, {0}, FIXED, false, false, false},
     GOLAY_CASE("decode, 0 changed places", golay_0),
     GOLAY_CASE("decode, 1 changed place", golay_1),
     GOLAY_CASE("decode, 2 changed places", golay_2),
     GOLAY_CASE("decode, 3 changed places", golay_3),
     GOLAY_CASE("decode, 4 changed places (far)", golay_4),
-    {"Golay", "read back", "row sums", golay_0, golay_message_ours, golay_message_plain, {0}, FIXED, false, false},
-    {"(72,64)", "encode", "folds", hsiao_0, hsiao_encode_ours, hsiao_encode_plain, {0}, FIXED, false, false},
+    {"Golay", "read back", "row sums", golay_0, golay_message_ours, golay_message_plain, {0}, FIXED, false, false, false},
+    {"(72,64)", "encode", "folds", hsiao_0, hsiao_encode_ours, hsiao_encode_plain, {0}, FIXED, false, false, false},
     HSIAO_CASE("decode, 0 changed places", hsiao_0),
     HSIAO_CASE("decode, 1 changed data place", hsiao_1),
     HSIAO_CASE("decode, 1 changed check place", hsiao_check),
     HSIAO_CASE("decode, 2 changed places (far)", hsiao_2),
-    {"(72,64)", "read back", "folds", hsiao_0, hsiao_message_ours, hsiao_message_plain, {0}, FIXED, false, false},
+    {"(72,64)", "read back", "folds", hsiao_0, hsiao_message_ours, hsiao_message_plain, {0}, FIXED, false, false, false},
     WIDTH_CASE("16, encode", narrow_0, width_encode),
     WIDTH_CASE("16, decode, 0 changed places", narrow_0, width_decode),
     WIDTH_CASE("16, decode, 1 changed data place", narrow_1, width_decode),
@@ -449,6 +461,7 @@ const Case cases[] = {
     SHEET_CASE("random (23,11)", sheet_other),
     SHEET_CASE("dense (28,16)", sheet_dense),
     SHEET_CASE("dense (28,16), within 1", sheet_within),
+    SHEET_CASE("dense (32,20)", sheet_longest),
 };
 
 const size_t case_count = sizeof cases / sizeof *cases;

@@ -11,6 +11,7 @@ typedef struct {
     int words;    /* of one run, by which its figures are divided; of interleaving its bits */
     bool matters; /* whether counts of ones matter to the plain side */
     bool less;    /* whether the run with no words, or fewer, is subtracted */
+    bool timed;   /* whether it is timed alone: its instructions are too many to be counted */
 } Case;
 
 extern const Case cases[];

@@ -1,7 +1,7 @@
 /* The proved library against plain C, case by case:
  *   bench list                      a line for each case: section, name, the plain C, the words (of interleaving the bits) of a
- *                                   run, whether counts of ones matter to the plain C, and whether the run with no words, or
- *                                   fewer, is to be subtracted
+ *                                   run, whether counts of ones matter to the plain C, whether the run with no words, or
+ *                                   fewer, is to be subtracted, and whether the case is timed alone
  *   bench check CASE                both sides give the same
  *   bench time CASE                 nanoseconds of a run, library and plain
  *   bench count CASE SIDE WORDS     makes runs of one side inside `measured`, for callgrind; prints how many
@@ -41,7 +41,7 @@ static void list(void)
 {
     for (size_t i = 0; i < case_count; i++) {
         const Case *c = &cases[i];
-        printf("%s\t%s\t%s\t%d\t%d\t%d\n", c->section, c->name, c->plain_name, c->words, c->matters, c->less);
+        printf("%s\t%s\t%s\t%d\t%d\t%d\t%d\n", c->section, c->name, c->plain_name, c->words, c->matters, c->less, c->timed);
     }
 }
 

@@ -15,9 +15,11 @@ GOALS = [("(72,64)", "(72,64) decode", 1.25), ("Widths", "word of 16 or 32 data 
          ("Leaders", "leaders", 1.15), ("Sheets of 512 words", "sheet", 1.5)]
 # Of a bit that is interleaved or deinterleaved; and the decode after it, beside these, by a decode of the same words.
 BIT_INSTRUCTIONS, SAME_WORDS, SAME_WORDS_GOAL = 8, "relay_decode of the words", 1.1
+# The largest code: Describe by sixteen times that of a code with four rows fewer, and a sheet by C with the same methods.
+LARGEST, FOUR_ROWS_FEWER, WALK_GOAL, SAME_METHODS, LARGEST_SHEET_GOAL = "dense (32,20)", "dense (28,16)", 1.05, "quick", 1.3
 
-Case = collections.namedtuple("Case", "index section name plain words matters less")
-# library: (instructions, nanoseconds); ratios: by build, of the same
+Case = collections.namedtuple("Case", "index section name plain words matters less timed")
+# library: (instructions, nanoseconds); ratios: by build, of the same; no instructions where the case is timed alone
 Result = collections.namedtuple("Result", "case library ratios")
 
 
@@ -47,17 +49,19 @@ def measure(directory, case, known):
     programs = {build: os.path.join(directory, "bench_" + build) for build in (BUILDS if case.matters else BUILDS[:1])}
     key = (case.section, case.name)
     if key not in known:
-        known[key] = instructions(programs["call"], case, "ours")
+        known[key] = None if case.timed else instructions(programs["call"], case, "ours")
     ratios, took = {}, []
     for build, program in programs.items():
         subprocess.run([program, "check", str(case.index)], check=True)
         ours, plain = times(program, case)
         took.append(ours)
-        ratios[build] = (known[key] / instructions(program, case, "plain"), ours / plain)
+        ratios[build] = (None if case.timed else known[key] / instructions(program, case, "plain"), ours / plain)
     return Result(case, (known[key], min(took)), ratios)
 
 
 def number(x):
+    if x is None:
+        return ""
     if x >= 1e6:
         return "%.2f M" % (x / 1e6)
     return "%.1f k" % (x / 1e3) if x >= 1e4 else "%.0f" % x if x >= 10 else "%.2f" % x
@@ -98,7 +102,8 @@ def goal_rows(title, goal, results):
     for r in results:
         if r.case.name not in ("encode", "read back"):
             for build, (ratio, _) in r.ratios.items():
-                found[r.case.plain, build if r.case.matters else ""].append((ratio, r.case.name))
+                if ratio is not None:
+                    found[r.case.plain, build if r.case.matters else ""].append((ratio, r.case.name))
     for (plain, build), ratios in found.items():
         yield goal_row(title, goal, plain, build, ratios)
 
@@ -113,6 +118,16 @@ def interleaving_rows(results):
     yield goal_row(title, SAME_WORDS_GOAL, SAME_WORDS, "", decoded)
 
 
+def largest_rows(described, sheets):
+    figures = {r.case.name: r.library[0] for r in described}
+    walked = [(figures[LARGEST] / (16 * figures[FOUR_ROWS_FEWER]), LARGEST)]
+    yield goal_row("describe by sixteen times that of four rows fewer", WALK_GOAL, "", "", walked)
+    for r in sheets:
+        if (r.case.name, r.case.plain) == (LARGEST, SAME_METHODS):
+            for build, (ratio, _) in r.ratios.items():
+                yield goal_row("sheet of the largest code", LARGEST_SHEET_GOAL, SAME_METHODS, build, [(ratio, LARGEST)])
+
+
 def machine():
     model = next((line.split(":")[1].strip() for line in open("/proc/cpuinfo") if line.startswith("model name")), "unknown")
     parts = [model, "%d cores" % os.cpu_count(), output("uname", "-sr").strip(), output("gcc", "--version").splitlines()[0],
@@ -124,8 +139,8 @@ def main():
     directory = sys.argv[1]
     cases = []
     for index, line in enumerate(output(os.path.join(directory, "bench_call"), "list").splitlines()):
-        section, name, plain, words, matters, less = line.split("\t")
-        cases.append(Case(index, section, name, plain, int(words), matters == "1", less == "1"))
+        section, name, plain, words, *flags = line.split("\t")
+        cases.append(Case(index, section, name, plain, int(words), *(flag == "1" for flag in flags)))
     known, sections = {}, collections.defaultdict(list)
     for case in cases:
         sections[case.section].append(measure(directory, case, known))
@@ -133,7 +148,9 @@ def main():
     print(open(os.path.join(os.path.dirname(__file__), "head.md")).read() + machine())
     print("## Goals\n\nThe greatest ratio of instructions among the cases below; of a bit the instructions themselves.\n")
     rows = [row for section, title, goal in GOALS for row in goal_rows(title, goal, sections[section])]
-    print(table(["Goal", "C", "build", "greatest ratio", ""], rows + list(interleaving_rows(sections["Interleaving"]))))
+    rows += largest_rows(sections["Describe"], sections["Sheets of 512 words"])
+    rows += interleaving_rows(sections["Interleaving"])
+    print(table(["Goal", "C", "build", "greatest ratio", ""], rows))
     print("\n".join("## %s\n\n%s" % (section, section_table(results)) for section, results in sections.items()), end="")
 
 

@@ -6,6 +6,9 @@
 #include <stddef.h>
 #include <stdint.h>
 
+/* The limits of a matrix. */
+enum { MAX_PLACES = 32, MAX_ROWS = 20, MAX_CHECKS = 12 };
+
 /* The number of ones: written inline, or gcc's own, which is a library call without -mpopcnt. */
 static inline unsigned ones(uint32_t x)
 {
@@ -23,7 +26,7 @@ static inline unsigned ones(uint32_t x)
 typedef struct {
     bool blocks; /* codewords are walked in blocks, not in Gray order */
     bool loops;  /* the leaders' last two ones are placed in loops, not by recursion */
-    bool tables; /* syndromes by tables of seven places, not by a parity for each check row */
+    bool tables; /* syndromes by tables of eight places, not by a parity for each check row */
     bool places; /* interleaved bits place by place, not word by word */
 } Ways;
 
@@ -36,10 +39,10 @@ uint32_t block_distance(uint32_t k, const uint32_t *rows);
 
 /* Causes 1 to 4. */
 uint32_t plain_accept(uint32_t n, uint32_t k, const uint32_t *rows, size_t rows_len, size_t *value);
-uint32_t plain_describe(uint32_t n, uint32_t k, const uint32_t *rows, size_t rows_len, uint32_t reduced[16], uint32_t checks[12],
-                        uint32_t counts[33], uint32_t *dmin, uint32_t *lightest, size_t *value);
+uint32_t plain_describe(uint32_t n, uint32_t k, const uint32_t *rows, size_t rows_len, uint32_t reduced[MAX_ROWS],
+                        uint32_t checks[MAX_CHECKS], uint32_t counts[33], uint32_t *dmin, uint32_t *lightest, size_t *value);
 uint32_t plain_leaders(uint32_t n, uint32_t k, const uint32_t *rows, size_t rows_len, uint32_t *list, size_t list_len,
-                       uint32_t checks[12], uint32_t *tried, size_t *value);
+                       uint32_t checks[MAX_CHECKS], uint32_t *tried, size_t *value);
 uint32_t plain_encode(uint32_t n, uint32_t k, const uint32_t *rows, size_t rows_len, const uint32_t *messages, size_t m,
                       uint32_t *out, size_t out_len, size_t *value);
 uint32_t plain_message(uint32_t n, uint32_t k, const uint32_t *rows, size_t rows_len, const uint32_t *words, size_t m,

@@ -15,15 +15,21 @@ static uint32_t refuse(size_t *value, uint32_t number, size_t v)
     return number;
 }
 
+/* Whether w has a one outside so many places, up to 32. */
+static inline bool outside(uint32_t w, uint32_t places)
+{
+    return (uint64_t)w >> places;
+}
+
 /* Causes 1 to 4, and the reduced rows by pivot. */
 static uint32_t reduce(uint32_t n, uint32_t k, const uint32_t *rows, size_t rows_len, Pivots *p, size_t *value)
 {
-    if (n < 2 || n > 28 || k < 1 || k > 16 || n < k + 1 || n > k + 12)
+    if (n < 2 || n > MAX_PLACES || k < 1 || k > MAX_ROWS || n < k + 1 || n > k + MAX_CHECKS)
         return refuse(value, 1, 0);
     if (rows_len != k)
         return refuse(value, 2, 0);
     for (uint32_t i = 0; i < k; i++)
-        if (rows[i] >> n)
+        if (outside(rows[i], n))
             return refuse(value, 3, i);
     memset(p, 0, sizeof *p);
     for (uint32_t i = 0; i < k; i++) {
@@ -66,12 +72,12 @@ static unsigned check_rows(uint32_t n, const Pivots *p, uint32_t *checks)
     return j;
 }
 
-uint32_t plain_describe(uint32_t n, uint32_t k, const uint32_t *rows, size_t rows_len, uint32_t reduced[16], uint32_t checks[12],
-                        uint32_t counts[33], uint32_t *dmin, uint32_t *lightest, size_t *value)
+uint32_t plain_describe(uint32_t n, uint32_t k, const uint32_t *rows, size_t rows_len, uint32_t reduced[MAX_ROWS],
+                        uint32_t checks[MAX_CHECKS], uint32_t counts[33], uint32_t *dmin, uint32_t *lightest, size_t *value)
 {
     Pivots p;
-    memset(reduced, 0, 16 * sizeof *reduced);
-    memset(checks, 0, 12 * sizeof *checks);
+    memset(reduced, 0, MAX_ROWS * sizeof *reduced);
+    memset(checks, 0, MAX_CHECKS * sizeof *checks);
     memset(counts, 0, 33 * sizeof *counts);
     *dmin = *lightest = 0;
     uint32_t number = reduce(n, k, rows, rows_len, &p, value);
@@ -95,7 +101,7 @@ static uint32_t lists(const uint32_t *words, size_t m, uint32_t places, size_t s
     if (m > 512)
         return refuse(value, 6, 0);
     for (size_t i = 0; i < m; i++)
-        if (words[i] >> places)
+        if (outside(words[i], places))
             return refuse(value, 7, i);
     if (slots < m)
         return refuse(value, 8, 0);
@@ -134,7 +140,7 @@ uint32_t plain_message(uint32_t n, uint32_t k, const uint32_t *rows, size_t rows
                        uint32_t *out, size_t out_len, size_t *value)
 {
     Pivots p;
-    uint32_t checks[12];
+    uint32_t checks[MAX_CHECKS];
     uint32_t number = reduce(n, k, rows, rows_len, &p, value);
     if (number || (number = lists(words, m, n, out_len, value)))
         return number;
@@ -148,7 +154,7 @@ uint32_t plain_message(uint32_t n, uint32_t k, const uint32_t *rows, size_t rows
 }
 
 typedef struct {
-    uint32_t *list, columns[28], left, tried;
+    uint32_t *list, columns[MAX_PLACES], left, tried;
 } Build;
 
 /* The words of m places and weight t, by rising number, until no entry is blank. */
@@ -203,9 +209,9 @@ static void fill_loops(Build *b, int m, int t, uint32_t w, uint32_t s)
 }
 
 /* Entry p is the syndrome of the word with a one at place p alone. */
-static void column_list(uint32_t n, const uint32_t *checks, unsigned r, uint32_t columns[28])
+static void column_list(uint32_t n, const uint32_t *checks, unsigned r, uint32_t columns[MAX_PLACES])
 {
-    memset(columns, 0, 28 * sizeof *columns);
+    memset(columns, 0, MAX_PLACES * sizeof *columns);
     for (uint32_t p = 0; p < n; p++)
         for (unsigned j = 0; j < r; j++)
             columns[p] |= (checks[j] >> p & 1) << j;
@@ -226,13 +232,13 @@ static void leaders(uint32_t n, const uint32_t *checks, unsigned r, Build *b)
 }
 
 uint32_t plain_leaders(uint32_t n, uint32_t k, const uint32_t *rows, size_t rows_len, uint32_t *list, size_t list_len,
-                       uint32_t checks[12], uint32_t *tried, size_t *value)
+                       uint32_t checks[MAX_CHECKS], uint32_t *tried, size_t *value)
 {
     Pivots p;
     Build b = {.list = list};
     uint32_t number = reduce(n, k, rows, rows_len, &p, value);
     *tried = 0;
-    memset(checks, 0, 12 * sizeof *checks);
+    memset(checks, 0, MAX_CHECKS * sizeof *checks);
     if (number)
         return number;
     if (list_len < (size_t)1 << (n - k))
@@ -242,23 +248,23 @@ uint32_t plain_leaders(uint32_t n, uint32_t k, const uint32_t *rows, size_t rows
     return 0;
 }
 
-/* The syndromes of seven places at a time. */
+/* The syndromes of eight places at a time. */
 typedef struct {
-    uint32_t of[4][128];
+    uint32_t of[4][256];
 } Tables;
 
-static void fill_tables(const uint32_t columns[28], Tables *tables)
+static void fill_tables(const uint32_t columns[MAX_PLACES], Tables *tables)
 {
     for (int t = 0; t < 4; t++) {
         tables->of[t][0] = 0;
-        for (uint32_t v = 1; v < 128; v++)
-            tables->of[t][v] = tables->of[t][v & (v - 1)] ^ columns[7 * t + __builtin_ctz(v)];
+        for (uint32_t v = 1; v < 256; v++)
+            tables->of[t][v] = tables->of[t][v & (v - 1)] ^ columns[8 * t + __builtin_ctz(v)];
     }
 }
 
 static inline uint32_t table_syndrome(const Tables *t, uint32_t w)
 {
-    return t->of[0][w & 127] ^ t->of[1][w >> 7 & 127] ^ t->of[2][w >> 14 & 127] ^ t->of[3][w >> 21];
+    return t->of[0][w & 255] ^ t->of[1][w >> 8 & 255] ^ t->of[2][w >> 16 & 255] ^ t->of[3][w >> 24];
 }
 
 typedef struct {
@@ -283,7 +289,7 @@ static void decode_words(const uint32_t *checks, unsigned r, const uint32_t *lea
         answer(a, i, words[i], leader[syndrome(checks, r, words[i])]);
 }
 
-static void decode_by_tables(const uint32_t columns[28], const uint32_t *leader, const uint32_t *words, size_t m, const Answers *a)
+static void decode_by_tables(const uint32_t columns[MAX_PLACES], const uint32_t *leader, const uint32_t *words, size_t m, const Answers *a)
 {
     Tables tables;
     fill_tables(columns, &tables);
@@ -296,7 +302,7 @@ uint32_t plain_decode(uint32_t n, uint32_t k, const uint32_t *rows, size_t rows_
                       uint32_t *work, size_t work_len, size_t *value, bool measured, uint32_t *d)
 {
     Pivots p;
-    uint32_t checks[12];
+    uint32_t checks[MAX_CHECKS];
     Build b = {.list = work};
     Answers a = {within, radius, out, counts};
     uint32_t number = reduce(n, k, rows, rows_len, &p, value);

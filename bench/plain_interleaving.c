@@ -82,7 +82,7 @@ uint32_t plain_decode_interleaved(uint32_t n, uint32_t k, const uint32_t *rows, 
         uint32_t number = plain_decode(n, k, rows, rows_len, true, radius, rows, 0, out, 0, counts, 0, work, 0, value, false, &d);
         return number == 9 ? refused : number;
     }
-    if (n > 28)
+    if (n > MAX_PLACES)
         return plain_accept(n, k, rows, rows_len, value);
     sort_back(n, depth, bits, words);
     return plain_decode(n, k, rows, rows_len, true, radius, words, depth, out, out_len, counts, counts_len, work, work_len, value,

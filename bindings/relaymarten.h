@@ -4,7 +4,7 @@
  * Link:   cc -I bindings program.c target/staticlib/librelaymarten.a
  *
  * A word of n places is the number whose bit i is place i. A generator matrix is a list of k rows, each a word of n places; message
- * place i selects row i. n is 2 to 28, k is 1 to 16, n - k is 1 to 12; a batch has at most 512 words.
+ * place i selects row i. n is 2 to 32, k is 1 to 20, n - k is 1 to 12; a batch has at most 512 words.
  *
  * What a caller keeps to; the proofs rest on it, and a call cannot test it. A list passes as pointer and length, in entries.
  *  - No pointer is null, also where a length is 0.
@@ -31,7 +31,7 @@ extern "C" {
 
 /* The version of this header. */
 #define RELAY_VERSION_MAJOR 0
-#define RELAY_VERSION_MINOR 8
+#define RELAY_VERSION_MINOR 9
 #define RELAY_VERSION_PATCH 0
 #define RELAY_VERSION (10000 * RELAY_VERSION_MAJOR + 100 * RELAY_VERSION_MINOR + RELAY_VERSION_PATCH)
 
@@ -40,8 +40,8 @@ uint32_t relay_version(void);
 
 /* Sizes. An array of the caller that has them is large enough for every call. */
 enum {
-    RELAY_MAX_PLACES = 28,    /* places of a word, n */
-    RELAY_MAX_ROWS = 16,      /* rows of a matrix, k; entries of `reduced` */
+    RELAY_MAX_PLACES = 32,    /* places of a word, n */
+    RELAY_MAX_ROWS = 20,      /* rows of a matrix, k; entries of `reduced` */
     RELAY_MAX_CHECKS = 12,    /* check rows, n - k; entries of `checks` */
     RELAY_WEIGHTS = 33,       /* entries of `weight_counts`: weights 0 to 32 */
     RELAY_MAX_WORDS = 512,    /* words of a batch */
@@ -208,7 +208,7 @@ static inline const char *relay_text(uint32_t number)
 {
     switch (number) {
     case RELAY_DONE: return "done";
-    case RELAY_OUT_OF_RANGE: return "n, k or n - k is out of range: n is 2 to 28, k is 1 to 16, n - k is 1 to 12";
+    case RELAY_OUT_OF_RANGE: return "n, k or n - k is out of range: n is 2 to 32, k is 1 to 20, n - k is 1 to 12";
     case RELAY_ROW_COUNT: return "the matrix has not exactly k rows";
     case RELAY_ROW_OUTSIDE: return "a row has a one at place n or beyond";
     case RELAY_DEPENDENT: return "a row is a sum of earlier rows (a zero row is the empty sum)";

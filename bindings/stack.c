@@ -9,20 +9,20 @@
 #include <stdlib.h>
 #include <string.h>
 
-enum { STACK = 1 << 18, MARK = 0xA5, RED_ZONE = 128 };
+enum { STACK = 1 << 18, MARK = 0xA5, RED_ZONE = 128, N = RELAY_MAX_PLACES, K = RELAY_MAX_ROWS };
 
-static uint32_t rows[RELAY_MAX_ROWS], words[RELAY_MAX_WORDS], out[RELAY_MAX_WORDS], work[RELAY_MAX_LEADERS];
-static uint8_t counts[RELAY_MAX_WORDS], bits[RELAY_MAX_DEPTH * RELAY_MAX_PLACES], sheet[RELAY_MAX_SHEET], printed[RELAY_MAX_OUTPUT];
+static uint32_t rows[K], words[RELAY_MAX_WORDS], out[RELAY_MAX_WORDS], work[RELAY_MAX_LEADERS];
+static uint8_t counts[RELAY_MAX_WORDS], bits[RELAY_MAX_DEPTH * N], sheet[RELAY_MAX_SHEET], printed[RELAY_MAX_OUTPUT];
 static size_t sheet_len, value;
 static volatile uint32_t number;
 
-/* A (28,16) code whose leaders weigh up to 12: the deepest recursion. */
+/* A (32,20) code whose leaders weigh up to 12: the deepest recursion, and a second or so for each call that builds them. */
 static void prepare(void)
 {
-    for (uint32_t i = 0; i < RELAY_MAX_ROWS; i++)
+    for (uint32_t i = 0; i < K; i++)
         rows[i] = 1u << i;
     for (uint32_t i = 0; i < RELAY_MAX_WORDS; i++)
-        words[i] = i * 0x2545F4u & 0xFFFFFFFu;
+        words[i] = i * 0x2545F491u;
 }
 
 static void put_words(uint8_t tag, const uint32_t *list, size_t length)
@@ -37,10 +37,10 @@ static void put_words(uint8_t tag, const uint32_t *list, size_t length)
 /* All 512 words, within radius 0. */
 static void prepare_sheet(void)
 {
-    static const uint8_t front[] = {1, 0, 1, 28, 2, 0, 1, 16}, radius[] = {4, 0, 1, 0};
+    static const uint8_t front[] = {1, 0, 1, N, 2, 0, 1, K}, radius[] = {4, 0, 1, 0};
     memcpy(sheet, front, sizeof front);
     sheet_len = sizeof front;
-    put_words(3, rows, RELAY_MAX_ROWS);
+    put_words(3, rows, K);
     memcpy(sheet + sheet_len, radius, sizeof radius);
     sheet_len += sizeof radius;
     put_words(5, words, RELAY_MAX_WORDS);
@@ -50,14 +50,14 @@ static void version(void) { number = relay_version() == RELAY_VERSION ? 0 : 99; 
 
 static void describe(void)
 {
-    static uint32_t reduced[RELAY_MAX_ROWS], checks[RELAY_MAX_CHECKS], weights[RELAY_WEIGHTS], dmin, lightest;
-    number = relay_describe(28, 16, rows, 16, reduced, checks, weights, &dmin, &lightest, &value);
+    static uint32_t reduced[K], checks[RELAY_MAX_CHECKS], weights[RELAY_WEIGHTS], dmin, lightest;
+    number = relay_describe(N, K, rows, K, reduced, checks, weights, &dmin, &lightest, &value);
 }
 
 static void leaders(void)
 {
     static uint32_t checks[RELAY_MAX_CHECKS], tried;
-    number = relay_leaders(28, 16, rows, 16, work, RELAY_MAX_LEADERS, checks, &tried, &value);
+    number = relay_leaders(N, K, rows, K, work, RELAY_MAX_LEADERS, checks, &tried, &value);
 }
 
 static void encode(void)
@@ -65,34 +65,34 @@ static void encode(void)
     static uint32_t messages[RELAY_MAX_WORDS];
     for (uint32_t i = 0; i < RELAY_MAX_WORDS; i++)
         messages[i] = i;
-    number = relay_encode(28, 16, rows, 16, messages, RELAY_MAX_WORDS, out, RELAY_MAX_WORDS, &value);
+    number = relay_encode(N, K, rows, K, messages, RELAY_MAX_WORDS, out, RELAY_MAX_WORDS, &value);
 }
 
 static void message(void)
 {
     static uint32_t codewords[RELAY_MAX_WORDS];
-    number = relay_message(28, 16, rows, 16, codewords, RELAY_MAX_WORDS, out, RELAY_MAX_WORDS, &value);
+    number = relay_message(N, K, rows, K, codewords, RELAY_MAX_WORDS, out, RELAY_MAX_WORDS, &value);
 }
 
 static void decode(void)
 {
-    number = relay_decode(28, 16, rows, 16, 1, 0, words, RELAY_MAX_WORDS, out, RELAY_MAX_WORDS, counts, RELAY_MAX_WORDS,
+    number = relay_decode(N, K, rows, K, 1, 0, words, RELAY_MAX_WORDS, out, RELAY_MAX_WORDS, counts, RELAY_MAX_WORDS,
                           work, RELAY_MAX_LEADERS, &value);
 }
 
 static void interleave(void)
 {
-    number = relay_interleave(28, 16, rows, 16, words, RELAY_MAX_DEPTH, bits, sizeof bits, &value);
+    number = relay_interleave(N, K, rows, K, words, RELAY_MAX_DEPTH, bits, sizeof bits, &value);
 }
 
 static void deinterleave(void)
 {
-    number = relay_deinterleave(28, 16, rows, 16, RELAY_MAX_DEPTH, bits, sizeof bits, out, RELAY_MAX_DEPTH, &value);
+    number = relay_deinterleave(N, K, rows, K, RELAY_MAX_DEPTH, bits, sizeof bits, out, RELAY_MAX_DEPTH, &value);
 }
 
 static void decode_interleaved(void)
 {
-    number = relay_decode_interleaved(28, 16, rows, 16, 0, RELAY_MAX_DEPTH, bits, sizeof bits, out, RELAY_MAX_DEPTH, counts,
+    number = relay_decode_interleaved(N, K, rows, K, 0, RELAY_MAX_DEPTH, bits, sizeof bits, out, RELAY_MAX_DEPTH, counts,
                                       RELAY_MAX_DEPTH, work, RELAY_MAX_LEADERS, &value);
 }
 

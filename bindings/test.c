@@ -286,14 +286,65 @@ static void widths(void)
     HOLDS(relay_hsiao_width_message(16, 0x07, 1, &message, &value) == RELAY_DONE && message == 1 && value == 0);
 }
 
+/* (31,20), the words of even weight of a BCH code: the rows are a generator polynomial times x^i. */
+static void longer_code(void)
+{
+    uint32_t matrix[RELAY_MAX_ROWS], reduced[RELAY_MAX_ROWS], checks[RELAY_MAX_CHECKS], weights[RELAY_WEIGHTS], dmin, found;
+    size_t value;
+    for (uint32_t i = 0; i < RELAY_MAX_ROWS; i++)
+        matrix[i] = 0x9BBu << i;
+    HOLDS(relay_describe(31, 20, matrix, 20, reduced, checks, weights, &dmin, &found, &value) == RELAY_DONE);
+    HOLDS(dmin == 6 && found == 0x3C21 && weights[6] == 806 && weights[16] == 301971 && weights[26] == 186 && weights[31] == 0);
+    HOLDS((reduced[19] & 0xFFFFF) == 0x80000 && checks[10] >> 30 == 1 && checks[11] == 0);
+    HOLDS(tried(31, 20, matrix, 2048, 0x2185) == 37851);
+    matrix[3] |= 1u << 31;
+    HOLDS(relay_describe(31, 20, matrix, 20, reduced, checks, weights, &dmin, &found, &value) == RELAY_ROW_OUTSIDE && value == 3);
+}
+
+/* At 32 places every number is a word: a row and a word of 32 ones are accepted, and that codeword is clean and read back. Two words
+ * are mended at place 31, one is far. */
+static void every_word(void)
+{
+    const uint32_t all = UINT32_MAX, messages[3] = {0, 0xFFFFF, 0x100000};
+    const uint32_t received[4] = {all, all ^ 0x80000000u, 0x80000000u, 7};
+    uint32_t matrix[RELAY_MAX_ROWS], read = 99;
+    size_t value = 99;
+    for (uint32_t i = 0; i < 19; i++)
+        matrix[i] = 0x769u << i;
+    matrix[19] = all;
+    HOLDS(relay_decode(32, 20, matrix, 20, 1, 2, received, 4, out, 4, counts, 4, work, RELAY_MAX_LEADERS, &value) == RELAY_DONE);
+    HOLDS(out[0] == all && counts[0] == 0 && out[1] == all && counts[1] == 1);
+    HOLDS(out[2] == 0 && counts[2] == 1 && out[3] == 7 && counts[3] == RELAY_FAR);
+    HOLDS(relay_message(32, 20, matrix, 20, &all, 1, &read, 1, &value) == RELAY_DONE && read == 0x80000);
+    HOLDS(relay_encode(32, 20, matrix, 20, messages, 3, out, 3, &value) == RELAY_WORD_OUTSIDE && value == 2);
+    HOLDS(relay_encode(32, 20, matrix, 20, messages, 2, out, 2, &value) == RELAY_DONE);
+}
+
+/* n and k at the limits: n - k is 1 to 12 too. */
+static void limits(void)
+{
+    static const uint32_t passing[][2] = {{32, 20}, {31, 19}, {29, 17}, {28, 16}, {13, 1}};
+    static const uint32_t refused[][2] = {{33, 21}, {21, 21}, {29, 16}, {32, 19}, {20, 20}, {14, 1}, {16, 16}, {33, 20}, {32, 21}};
+    uint32_t matrix[RELAY_MAX_ROWS + 1];
+    for (uint32_t i = 0; i <= RELAY_MAX_ROWS; i++)
+        matrix[i] = 1u << i;
+    words[0] = 0;
+    for (size_t i = 0; i < sizeof passing / sizeof *passing; i++)
+        HOLDS(encode(passing[i][0], passing[i][1], matrix, passing[i][1], 1, 1) == RELAY_DONE);
+    for (size_t i = 0; i < sizeof refused / sizeof *refused; i++)
+        HOLDS(encode(refused[i][0], refused[i][1], matrix, refused[i][1], 1, 1) == RELAY_OUT_OF_RANGE);
+    HOLDS(encode(32, 20, matrix, 21, 1, 1) == RELAY_ROW_COUNT);
+}
+
 /* The largest code: lists of the stated sizes are long enough, and written to their end and no further. */
 static void sizes(void)
 {
     uint32_t matrix[RELAY_MAX_ROWS], reduced[RELAY_MAX_ROWS + 1], checks[RELAY_MAX_CHECKS + 1], weights[RELAY_WEIGHTS + 1];
     uint32_t dmin, lightest, word = 0;
     size_t value, short_work = RELAY_MAX_LEADERS - 1;
+    HOLDS(RELAY_MAX_PLACES == 32 && RELAY_MAX_ROWS == 20 && RELAY_MAX_CHECKS == 12);
     for (uint32_t i = 0; i < RELAY_MAX_ROWS; i++)
-        matrix[i] = 1u << i | (0x9E3779B9u * (i + 1) & 0xFFF0000u);
+        matrix[i] = 1u << i | (0x9E3779B9u * (i + 1) & 0xFFF00000u);
     memset(reduced, 0xA5, sizeof reduced);
     memset(checks, 0xA5, sizeof checks);
     memset(weights, 0xA5, sizeof weights);
@@ -320,6 +371,9 @@ int main(void)
     sending();
     bursts();
     widths();
+    longer_code();
+    every_word();
+    limits();
     sizes();
     return failed;
 }

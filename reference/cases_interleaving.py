@@ -78,7 +78,7 @@ def mixed_interleaving():
         ends(cause, bits_decoded, 5, 2, FIVE, 1, 2, bits, 1, 2, 7)
     ends(WORK, bits_decoded, 5, 2, FIVE, 1, 2, [1] * 10, 2, 2, 7)
     title('interleaving: n out of range')
-    for n, k, depth in ((29, 17, 16), (33, 21, 2), (40, 16, 3), (0, 0, 0), (0, 1, 2)):
+    for n, k, depth in ((33, 20, 16), (33, 21, 2), (40, 16, 3), (0, 0, 0), (0, 1, 2)):
         rows = tuple(1 << i for i in range(k))
         ends((1, 0), interleaved, n, k, rows, [0] * depth, depth * n)
         ends((1, 0), deinterleaved, n, k, rows, depth, [1] * (depth * n), depth)

@@ -96,18 +96,18 @@ def every(n, k, rows, cause=None):
 
 def ranges():
     def units(n, k):
-        return tuple(2**i for i in range(min(k, 17)))
+        return tuple(2**i for i in range(min(k, 21)))
     title('cause 1: in range')
-    for n, k in ((28, 16), (13, 1), (2, 1), (17, 16), (14, 2)):
+    for n, k in ((32, 20), (31, 19), (29, 17), (28, 16), (13, 1), (2, 1), (21, 20), (17, 16), (14, 2)):
         assert matrix_cause(n, k, units(n, k)) is None
         every(n, k, units(n, k))
     title('cause 1: out of range')
-    for n, k in ((29, 16), (14, 1), (16, 16), (1, 1), (0, 0), (5, 0), (20, 17), (28, 15), (3, 4), (MAX, 1), (1, MAX), (MAX, MAX),
-                 (MAX, MAX - 1)):
+    for n, k in ((33, 21), (21, 21), (29, 16), (32, 19), (20, 20), (14, 1), (16, 16), (33, 20), (32, 21), (22, 21), (1, 1), (0, 0), (5, 0),
+                 (28, 15), (3, 4), (MAX, 1), (1, MAX), (MAX, MAX), (MAX, MAX - 1)):
         every(n, k, units(n, k), (1, 0))
     title('each n and k')
-    for n in range(32):
-        for k in range(21):
+    for n in range(36):
+        for k in range(24):
             numbers('in range', n, k, in_range(n, k))
 
 
@@ -124,6 +124,7 @@ def matrices():
     every(7, 4, (11, 22, 39, 128), (3, 3))
     every(13, 1, (8192,), (3, 0))
     every(28, 16, (1, 2**27, 2**28, MAX) + tuple(range(5, 17)), (3, 2))
+    every(31, 19, (2**31 - 1, 2**30, 2**31) + (MAX,) * 16, (3, 2))
     title('cause 4: rows dependent')
     every(4, 3, tuple(word(r) for r in ('1100', '1010', '0110')), (4, 2))
     every(7, 4, (0,) + HAMMING[1:], (4, 0))

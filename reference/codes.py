@@ -15,7 +15,7 @@ def word(digits):
 
 
 def weight(w):
-    return bin(w).count('1')
+    return w.bit_count()
 
 
 def row_sum(rows, message):
@@ -66,7 +66,7 @@ def first_dependent(rows):
 
 
 def leftmost(w):
-    return next(p for p in range(WIDTH) if w >> p & 1)
+    return (w & -w).bit_length() - 1
 
 
 @lru_cache(maxsize=None)
@@ -123,22 +123,15 @@ def order(e):
 
 @lru_cache(maxsize=None)
 def leaders(n, rows):
-    """For each syndrome the least word by weight, then by number: weight after weight, until every syndrome has one."""
+    """For each syndrome the least word by weight, then by number. Place after place: of the words of p + 1 places with a syndrome the
+    least has a one at place p, and is 2^p more than the least of those of p places with the syndrome less that place's, or has none."""
     checks = check_rows(n, rows)
-    columns = [syndrome(checks, 1 << p) for p in range(n)]
-    best = {}
-    for t in range(n + 1):
-        new = {}
-        for places in combinations(range(n), t):
-            s = w = 0
-            for p in places:
-                s ^= columns[p]
-                w |= 1 << p
-            if s not in best:
-                new[s] = min(w, new.get(s, w))
-        best.update(new)
-        if len(best) == 1 << len(checks):
-            return [best[s] for s in range(1 << len(checks))]
+    best = {0: 0}
+    for p in range(n):
+        column = syndrome(checks, 1 << p)
+        more = {s ^ column: e + (1 << p) for s, e in best.items()}
+        best = {s: min((b[s] for b in (best, more) if s in b), key=order) for s in best.keys() | more.keys()}
+    return [best[s] for s in range(1 << len(checks))]
 
 
 @lru_cache(maxsize=None)
@@ -155,13 +148,14 @@ def place(n, w):
 
 
 def tried_until_met(n, rows):
-    """A second opinion: the words in this order, until every syndrome has been met."""
-    checks, met, count = check_rows(n, rows), set(), 0
+    """A second opinion, also on the leaders: the words in this order, until every syndrome has been met."""
+    checks, met, count = check_rows(n, rows), {}, 0
     for t in range(n + 1):
         for w in sorted(sum(1 << p for p in places) for places in combinations(range(n), t)):
-            met.add(syndrome(checks, w))
+            met.setdefault(syndrome(checks, w), w)
             count += 1
             if len(met) == 1 << len(checks):
+                assert leaders(n, rows) == [met[s] for s in range(len(met))]
                 return count
 
 
@@ -175,7 +169,7 @@ def tried(n, rows):
 
 # ---- the causes
 def in_range(n, k):
-    return 2 <= n <= 28 and 1 <= k <= 16 and 1 <= n - k <= 12
+    return 2 <= n <= 32 and 1 <= k <= 20 and 1 <= n - k <= 12
 
 
 @lru_cache(maxsize=None)

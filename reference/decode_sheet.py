@@ -5,18 +5,16 @@ import random
 import sys
 
 from codes import dmin, row_sum
-from named_codes import polynomial
+from named_codes import LARGEST
 from vectors_sheet import LONGEST, WORKED, output, sheet
 
 def most_words():
-    """512 words of 28 places within radius 2, codewords changed in 0 to 3 places. The rows are multiples of the generator polynomial
-    of the (31,21) BCH code."""
+    """512 words of 32 places within radius 2, codewords changed in 0 to 3 places."""
     rng = random.Random(5)
-    rows = polynomial(16, 12, 11, 9, 7, 6, 3, 2, 0)
-    assert dmin(rows) == 6
+    assert dmin(LARGEST) == 5
     def word(changes):
-        return row_sum(rows, rng.randrange(1 << 16)) ^ sum(1 << p for p in rng.sample(range(28), changes))
-    return sheet(28, 16, rows, [word(i % 4) for i in range(512)], 2)
+        return row_sum(LARGEST, rng.randrange(1 << 20)) ^ sum(1 << p for p in rng.sample(range(32), changes))
+    return sheet(32, 20, LARGEST, [word(i % 4) for i in range(512)], 2)
 
 PROGRAMS = {
     'decode_sheet': WORKED,

@@ -40,3 +40,8 @@ BCH = polynomial(7, 8, 7, 6, 4, 0)
 FALLING = tuple([2**(27 - i) + 2**i for i in range(12)] + [2**15, 2**14, 2**13, 2**12])
 GAPS = 3360, 96, 2208, 1184
 ONES_13 = (2**13 - 1,)
+
+# 02, No. 7: the words of even weight of the (31,21) BCH code; rows of that code and 32 ones; a one of twelve check places for each row
+EVEN_BCH = polynomial(20, 11, 8, 7, 5, 4, 3, 1, 0)
+LARGEST = polynomial(19, 10, 9, 8, 6, 5, 3, 0) + (MAX,)
+PAIRS = tuple(2**i + 2**(20 + i % 12) for i in range(20))

@@ -4,6 +4,7 @@ from codes import (check_rows, codewords, decode, decode_interleaved, deinterlea
 
 MARKS = 777, 77, 7777             # what each slot holds that is lent: of a list of words, of counts, of a working list
 NEAREST = None                    # a reading is that or a radius
+ROWS, CHECKS, WEIGHTS = 20, 12, 33   # the entries of the lists that Describe answers
 RECORDS, LINES = [], []
 
 
@@ -87,15 +88,15 @@ def distance_part(n, k, rows):
 
 
 def rows_part(n, k, rows):
-    return ', rows' + items(padded([] if matrix_cause(n, k, rows) else reduced(rows), 16))
+    return ', rows' + items(padded([] if matrix_cause(n, k, rows) else reduced(rows), ROWS))
 
 
 def checks_part(n, k, rows):
-    return ', checks' + items(padded([] if matrix_cause(n, k, rows) else check_rows(n, rows), 12))
+    return ', checks' + items(padded([] if matrix_cause(n, k, rows) else check_rows(n, rows), CHECKS))
 
 
 def weights_part(n, k, rows):
-    return ', weights' + items([0] * 33 if matrix_cause(n, k, rows) else weight_counts(codewords(rows)))
+    return ', weights' + items([0] * WEIGHTS if matrix_cause(n, k, rows) else weight_counts(codewords(rows)))
 
 
 def reduced_call(n, k, rows):
@@ -130,7 +131,7 @@ def leaders_call(n, k, rows, slots):
     out = [MARKS[2]] * slots
     c = leaders_of(n, k, rows, out)
     number = 0 if c else tried(n, rows)
-    checks = padded([] if c else check_rows(n, rows), 12)
+    checks = padded([] if c else check_rows(n, rows), CHECKS)
     record('leaders', n, k, 0, rows, (slots,), f'{said(c)} {number}, checks{items(checks)}' + listed(out, MARKS[2]))
     return number, out
 

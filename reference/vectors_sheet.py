@@ -5,7 +5,8 @@ import random
 import sys
 from itertools import combinations
 
-from codes import decode, dmin
+from codes import decode, dmin, leader
+from named_codes import LARGEST, MAX, PAIRS
 
 # ---- the code sheet
 class Refused(Exception):
@@ -81,6 +82,7 @@ assert output(WITHIN).splitlines()[3] == 'clean 0 mended 1 far 1 places 1'
 assert output(sheet(6, 3, ROWS, [])) == '6 3 3 1\nclean 0 mended 0 far 0 places 0\n'
 assert output(sheet(6, 3, ROWS, WORDS, 2)) == 'refused 5 0\n'
 assert output(b'') == 'refused 13 0\n'
+assert leader(PAIRS, MAX) == 0xFF and output(sheet(32, 20, PAIRS, [MAX])).startswith('32 20 2 0\n' + '0' * 8 + '1' * 24 + ' 8\n')
 
 SHEETS = []
 def case(title, s):
@@ -180,14 +182,21 @@ def large():
     case('514 words', sheet(28, 16, rows, words + [0, 0]))
     case('600 words', sheet(6, 3, ROWS, [1] * 600))
     case('512 words, the last outside', sheet(28, 16, rows, words[:511] + [1 << 28]))
+    case('20 rows and one more', sheet(32, 20, LARGEST + (1,), [0]))
+    case('21 rows, k 21', sheet(33, 21, LARGEST + (1,), [0]))
+    words = [rng.randrange(1 << 32) for _ in range(510)] + [MAX, MAX ^ 7]
+    case('32 places, 512 words', sheet(32, 20, LARGEST, words))
+    case('32 places, 512 words, within 2', sheet(32, 20, LARGEST, words, 2))
+    case('32 places, pairs', sheet(32, 20, PAIRS, [MAX]))
     golay = [0xAE3, 0x5C7]
     case('23 places, 12 rows', sheet(23, 12, [golay[0] << i for i in range(12)], [rng.randrange(1 << 23) for _ in range(100)], 3))
 
 def ranges():
     rng = random.Random(3)
     for n, k in ((0, 0), (1, 1), (2, 0), (2, 1), (2, 2), (2, 3), (13, 1), (14, 1), (28, 16), (29, 16), (29, 17), (16, 16), (28, 17),
-                 (27, 15), (28, 15), (255, 255), (255, 1), (1, 255), (32, 20), (33, 21)):
-        case('n %d, k %d' % (n, k), sheet(n, k, systematic(rng, min(n, 28), min(k, 20), 0.5 if n > 20 else 0.1), [1]))
+                 (27, 15), (28, 15), (255, 255), (255, 1), (1, 255), (32, 20), (31, 19), (32, 19), (32, 21), (33, 20), (33, 21), (20, 20),
+                 (21, 21)):
+        case('n %d, k %d' % (n, k), sheet(n, k, systematic(rng, min(n, 32), min(k, 21), 0.5 if n > 20 else 0.1), [1]))
 
 def causes():
     """Each cause, and each two of them in one sheet."""

@@ -12,7 +12,7 @@ class Cause(NamedTuple):
 
 
 CAUSES = {
-    1: Cause('n, k or n - k is out of range: n is 2 to 28, k is 1 to 16, n - k is 1 to 12', NOTHING,
+    1: Cause('n, k or n - k is out of range: n is 2 to 32, k is 1 to 20, n - k is 1 to 12', NOTHING,
              'Compare n and k with the matrix.'),
     2: Cause('the matrix has not exactly k rows', NOTHING,
              'Count the rows: one is missing or one too many, or k is wrong.'),

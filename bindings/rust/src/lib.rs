@@ -1,7 +1,7 @@
 //! Safe calls of Relaymarten: proved encoding and decoding of binary linear block codes.
 //!
 //! A word of n places is the number whose bit i is place i. A generator matrix is a list of k rows, each a word of n places;
-//! message place i selects row i. n is 2 to 28, k is 1 to 16, n - k is 1 to 12. Any other input is refused, by a [`Refusal`] that
+//! message place i selects row i. n is 2 to 32, k is 1 to 20, n - k is 1 to 12. Any other input is refused, by a [`Refusal`] that
 //! has the specification's number and value; no call panics, allocates or keeps anything, and calls may run in several threads at
 //! once.
 //!
@@ -53,13 +53,13 @@ use outcome::front;
 
 /// The version of the library that this crate is written for: 10,000 times the major number, 100 times the minor one, and the
 /// patch.
-pub const VERSION: u32 = 800;
+pub const VERSION: u32 = 900;
 
 /// The most places of a word, n.
-pub const MAX_PLACES: u32 = 28;
+pub const MAX_PLACES: u32 = 32;
 
 /// The most rows of a matrix, k.
-pub const MAX_ROWS: usize = 16;
+pub const MAX_ROWS: usize = 20;
 
 /// The most check rows, n - k.
 pub const MAX_CHECKS: usize = 12;

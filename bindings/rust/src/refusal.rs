@@ -116,7 +116,7 @@ impl Refusal {
 impl fmt::Display for Refusal {
     fn fmt(&self, f: &mut fmt::Formatter) -> fmt::Result {
         match self {
-            Refusal::OutOfRange => write!(f, "n, k or n - k is out of range: n is 2 to 28, k is 1 to 16, n - k is 1 to 12"),
+            Refusal::OutOfRange => write!(f, "n, k or n - k is out of range: n is 2 to 32, k is 1 to 20, n - k is 1 to 12"),
             Refusal::RowCount => write!(f, "the matrix has not exactly k rows"),
             Refusal::RowOutside(i) => write!(f, "row {i} has a one at place n or beyond"),
             Refusal::Dependent(i) => write!(f, "row {i} is a sum of earlier rows (a zero row is the empty sum)"),

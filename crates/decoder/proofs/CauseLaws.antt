@@ -9,19 +9,19 @@ use lib.ListN.{length}
 use borrow.Author.Tests.{leb-true, le-leb, lt-leb, eq-eqb}
 use Rattle.coding.specs.Matrix.{Inside}
 use Rattle.coding.specs.Weight.{dmin}
-use Rattle.words.specs.Limits.{maxWords}
+use Rattle.words.specs.Limits.{maxWords, width}
 use Rattle.words.specs.Refusal.{numberOf, andThen, ifDone}
 use Rattle.words.specs.Shape.{firstOutside}
 use Rattle.words.specs.Accepted.{matrixAnswer, Accepted}
-use Rattle.words.proofs.AcceptedLaws.{accepted-in, matrix-numbered}
+use Rattle.words.proofs.AcceptedLaws.{accepted-in, matrix-numbered, matrix-other}
 use Rattle.words.specs.Lists.{manyAnswer, insideAnswer, roomAnswer, listAnswer}
 use Rattle.words.specs.declared.answer.Refusal.{Refusal}
 use Rattle.words.specs.declared.answer.Refusal.the-variants.{RadiusTooLarge, TooManyWords, WordOutside, ShortOutput, ShortWork}
 use Rattle.words.specs.declared.answer.Answer.{Answer}
 use Rattle.words.specs.declared.answer.Answer.the-variants.{Done, Refused}
-use Rattle.words.proofs.AnswerLaws.{unless-done, andThen-done, andThen-assoc, stays, goes, Numbered, Between, unless-numbered, andThen-numbered, numbered-as}
+use Rattle.words.proofs.AnswerLaws.{unless-done, andThen-done, andThen-assoc, stays, goes, Numbered, Between, Other, unless-numbered, andThen-numbered, numbered-as, below}
 use Rattle.words.proofs.ShapeLaws.{inside-none}
-use Rattle.words.proofs.WordListLaws.{Listed, list-in}
+use Rattle.words.proofs.WordListLaws.{Listed, list-in, list-numbered, list-other}
 use Rattle.weights.specs.Description.{WeightsOf}
 use Rattle.weights.specs.declared.weights.Weights.{Weights}
 use Rattle.decoder.specs.Inner.Known.{asked, KnownOf}
@@ -139,14 +139,10 @@ work-numbered : (P : ℕ → Type 0) (room size : ℕ) → P 9 → Numbered P (w
 work-numbered P room size h = unless-numbered P (leb size room) ShortWork Done h tt
 
 lists-numbered : (n k : ℕ) (words : List ℕ) (slots bytes room : ℕ) → Numbered (Between 6 9) (listsAnswer n k words slots bytes room)
-unfolding listsAnswer listAnswer
+unfolding listsAnswer
 lists-numbered n k words slots bytes room =
     andThen-numbered (Between 6 9) (listAnswer words n (min slots bytes)) (workAnswer room (2 ^ (n - k)))
-    (andThen-numbered (Between 6 9) (manyAnswer words) _
-    (unless-numbered (Between 6 9) (leb (length words) maxWords) TooManyWords Done (omega arith, omega arith) tt)
-    (andThen-numbered (Between 6 9) (insideAnswer words n) _
-    (unless-numbered (Between 6 9) (eqb (firstOutside n words) (length words)) (WordOutside (firstOutside n words)) Done (omega arith, omega arith) tt)
-    (room-numbered (Between 6 9) (length words) (min slots bytes) (omega arith, omega arith))))
+    (list-numbered (Between 6 9) words n (min slots bytes) (omega arith, omega arith) (omega arith, omega arith) (omega arith, omega arith))
     (work-numbered (Between 6 9) room (2 ^ (n - k)) (omega arith, omega arith))
 
 -- words that are few enough and have no other place pass 6 and 7
@@ -171,3 +167,23 @@ decode-numbered n k rows reading words slots bytes room =
 pub refused-number : (n k : ℕ) (rows : List ℕ) (reading : Reading) (words : List ℕ) (slots bytes room : ℕ) (c : Refusal)
     → decodeAnswer n k rows reading words slots bytes room ≡ Refused c → (1 ≤ numberOf c) × (numberOf c ≤ 9)
 refused-number n k rows reading words slots bytes room c e = rw e at (decode-numbered n k rows reading words slots bytes room)
+
+-- 02, No. 7: at 32 places neither 3 nor 7
+module _ (n k : ℕ) (rows : List ℕ) (reading : Reading) (words : List ℕ) (slots bytes room : ℕ) (e : n ≡ width) where
+  pub row-other : Inside width rows → Numbered (Other 3) (decodeAnswer n k rows reading words slots bytes room)
+  unfolding decodeAnswer codeAnswer listsAnswer
+  row-other f =
+      andThen-numbered (Other 3) (codeAnswer n k rows reading) _
+      (andThen-numbered (Other 3) (matrixAnswer n k rows) _ (matrix-other n k rows e f)
+      (radius-numbered (Other 3) reading (dmin rows) (λ z. omega (arith, z))))
+      (andThen-numbered (Other 3) (listAnswer words n (min slots bytes)) _
+      (list-numbered (Other 3) words n (min slots bytes) (λ z. omega (arith, z)) (λ z. omega (arith, z)) (λ z. omega (arith, z)))
+      (work-numbered (Other 3) room (2 ^ (n - k)) (λ z. omega (arith, z))))
+
+  pub word-other : Inside width words → Numbered (Other 7) (decodeAnswer n k rows reading words slots bytes room)
+  unfolding decodeAnswer listsAnswer
+  word-other f =
+      andThen-numbered (Other 7) (codeAnswer n k rows reading) _
+      (below 7 1 5 (codeAnswer n k rows reading) (omega arith) (code-numbered n k rows reading))
+      (andThen-numbered (Other 7) (listAnswer words n (min slots bytes)) _ (list-other words n (min slots bytes) e f)
+      (work-numbered (Other 7) room (2 ^ (n - k)) (λ z. omega (arith, z))))

@@ -7,14 +7,15 @@ use native.Mathlib.Omega.{arith}
 use lib.ListN.{length, getD, take, drop, length-append}
 use lib.Seq.{take-at}
 use Rattle.coding.specs.Lists.{padded}
+use Rattle.coding.specs.Matrix.{Inside}
 use Rattle.coding.specs.Check.{checks, syndrome}
 use Rattle.coding.specs.Weight.{dmin}
-use Rattle.words.specs.Limits.{maxChecks}
+use Rattle.words.specs.Limits.{maxChecks, width}
 use Rattle.words.specs.Accepted.{Accepted}
 use Rattle.words.specs.declared.answer.Refusal.{Refusal}
 use Rattle.words.specs.declared.answer.Answer.{Answer}
 use Rattle.words.specs.declared.answer.Answer.the-variants.{Done, Refused}
-use Rattle.words.proofs.AnswerLaws.{refused-done, kept, filled, written}
+use Rattle.words.proofs.AnswerLaws.{refused-done, never, never-done, kept, filled, written}
 use Rattle.words.proofs.AcceptedLaws.{accepted-in}
 use Rattle.words.proofs.CodeLaws.{distance-is, checks-below, leader-at}
 use Rattle.leaders.specs.Leaders.{leadersList}
@@ -25,7 +26,7 @@ use Rattle.outcomes.proofs.DemandLaws.{nearest-rule, radius-rule, clean-rule}
 use Rattle.decoder.specs.Causes.{decodeAnswer}
 use Rattle.decoder.specs.Decoded.{Batch, Lent, Decoded}
 use Rattle.decoder.specs.Inner.SlotsBy.{wordBy, countBy}
-use Rattle.decoder.proofs.CauseLaws.{Passed, batch-in, refused-number, radius-in}
+use Rattle.decoder.proofs.CauseLaws.{Passed, batch-in, refused-number, row-other, word-other, radius-in}
 use Rattle.decoder.proofs.SlotLaws.{slot-at, words-are, counts-are}
 
 -- the answer to a batch
@@ -33,12 +34,17 @@ abbrev pub answerTo : Batch → Lent → Answer
 answerTo B L = decodeAnswer (B .n) (B .k) (B .rows) (B .reading) (B .words) (length (L .codewords)) (length (L .counts)) (length (L .work))
 
 -- a refusal leaves every list as it was
-pub decode-refused : (B : Batch) (L : Lent) (r : Answer) (c : Refusal) → r ≡ Refused c → r ≡ answerTo B L → (after : Lent) → after ≡ L → Decoded B L r after
-decode-refused B L r c e b after s =
+pub decode-refused : (B : Batch) (L : Lent) → Inside width (B .rows) × Inside width (B .words) → (r : Answer) (c : Refusal) → r ≡ Refused c
+    → r ≡ answerTo B L → (after : Lent) → after ≡ L → Decoded B L r after
+decode-refused B L (f, g) r c e b after s =
     let (low, high) = refused-number (B .n) (B .k) (B .rows) (B .reading) (B .words) _ _ _ c (sym b ∙ e) in
     record {
       answer = b;
       either = inl (c, e, low, high, s);
+      every-word = λ w. (
+        never 3 _ r b (row-other (B .n) (B .k) (B .rows) (B .reading) (B .words) _ _ _ w f),
+        never 7 _ r b (word-other (B .n) (B .k) (B .rows) (B .reading) (B .words) _ _ _ w g),
+      );
       codewords = ap (λ (l : Lent). l .codewords) s ∙ kept r c e _ (L .codewords);
       distances = ap (λ (l : Lent). l .counts) s ∙ kept r c e _ (L .counts);
       leaders = ap (λ (l : Lent). l .work) s ∙ kept r c e _ (L .work);
@@ -70,6 +76,7 @@ module _ (B : Batch) (L : Lent) (b : answerTo B L ≡ Done) where
   decode-done after eo ec ew = record {
     answer = sym b;
     either = inr refl;
+    every-word = λ _. (never-done 3, never-done 7);
     codewords = written (wordOf (B .n) (B .rows) (B .reading)) (B .words) (L .codewords) (after .codewords) eo;
     distances = written (countOf (B .n) (B .rows) (B .reading)) (B .words) (L .counts) (after .counts) ec;
     leaders = filled (leadersList (B .n) (B .k) (B .rows)) (L .work) (after .work) _ (leaders-long (B .n) (B .k) (B .rows) A) ew;

@@ -37,7 +37,7 @@ module _ (n k : ℕ) (rows : List ℕ) (ρ L : ℕ) (bits : List ℕ) (slots byt
   abbrev answer : Answer
   answer = interleavedAnswer n k rows ρ L bits slots bytes room
 
-  -- no word has more than 28 places
+  -- no word has more places
   pub too-long : maxPlaces < n → Refused OutOfRange ≡ answer
   unfolding interleavedAnswer shapeAnswer
   too-long h =

@@ -4,15 +4,18 @@ use mathlib.Core.List.{List}
 use Prim.Native.Nat.{ℕ}
 use lib.ListN.{take}
 use Rattle.coding.specs.Matrix.{Independent, Depends}
+use Rattle.words.specs.Limits.{width}
+use Rattle.words.specs.Refusal.{Never}
 use Rattle.words.specs.Accepted.{matrixAnswer, Accepted}
 use Rattle.words.specs.declared.answer.Refusal.the-variants.{Dependent}
 use Rattle.words.specs.declared.answer.Answer.{Answer}
 use Rattle.words.specs.declared.answer.Answer.the-variants.{Done, Refused}
 
--- the answer to a matrix: it is accepted exactly when it meets those demands, and the row found by cause 4 is a sum of earlier
--- rows, which are independent
+-- the answer to a matrix: it is accepted exactly when it meets those demands, the row found by cause 4 is a sum of earlier rows, which
+-- are independent, and at 32 places every number is a word, so that cause 3 never arises (02, No. 7)
 pub record Judged (n k : ℕ) (rows : List ℕ) (r : Answer) : Type 0 where
   pub answer : r ≡ matrixAnswer n k rows
   pub accepted : r ≡ Done → Accepted n k rows
   pub accepts : Accepted n k rows → r ≡ Done
+  pub every-word : n ≡ width → Never 3 r
   pub found : (i : ℕ) → r ≡ Refused (Dependent i) → Depends rows i × Independent (take i rows)

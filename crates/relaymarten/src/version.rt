@@ -7,5 +7,5 @@ ghost use Rattle.relaymarten.specs.Version.{version};
 pub extern "C" fn relay_version() -> u32
     ensures { λ r. ⌜ r ≡ version ⌝ }
 {
-    800
+    900
 }

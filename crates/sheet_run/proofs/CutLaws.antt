@@ -1,6 +1,6 @@
 -- Laws of a cut list: more rows than any code has, or more words than a batch may have, are refused alike however many they are.
 -- Assumes nothing.
-use mathlib.Core.Path.{_≡_, refl, sym, ap, _∙_}
+use mathlib.Core.Path.{_≡_, refl, sym, ap, ap₂, _∙_}
 use mathlib.Core.Bool.{Bool, true, false}
 use mathlib.Core.List.{List}
 use Prim.Native.Nat.{ℕ, _^_, _≤_, _<_}
@@ -22,7 +22,10 @@ use Rattle.words.proofs.AcceptedLaws.{shape-refused}
 use Rattle.decoder.specs.Causes.{codeAnswer, listsAnswer, decodeAnswer}
 use Rattle.outcomes.specs.declared.ending.Reading.{Reading}
 use Rattle.decoder.proofs.CauseLaws.{at-matrix}
+use Rattle.sheet.specs.Words.{wordsAt}
 use Rattle.sheet_run.specs.Output.{linesOf, batchOutput}
+use Rattle.sheet_run.specs.Inner.Loaded.{Loaded}
+use Rattle.sheet_run.proofs.LoadLaws.{loaded-cut}
 
 -- the number of rows is none that a code has: cause 1 or 2
 shapes : (n k : ℕ) (rows : List ℕ) → maxRows < length rows → shapeAnswer n k rows ≡ unless (inRange n k) OutOfRange (Refused RowCount)
@@ -70,20 +73,27 @@ module _ (n k : ℕ) (reading : Reading) where
   same-output rows words rows′ words′ c e f =
       ap (λ (a : Answer). linesOf a n k rows reading words) e ∙ sym (ap (λ (a : Answer). linesOf a n k rows′ reading words′) f)
 
-  -- 33 rows are more than any code has, 513 words more than a batch may have
-  pub cut-output : (rows words : List ℕ) → batchOutput n k (take 33 rows) reading (take 513 words) ≡ batchOutput n k rows reading words
-  cut-output rows words = go (decLe (length rows) 33) (decLe (length words) 513)
+  -- so the lists may be cut to a rows, more than any code has, and b words, more than a batch may have
+  cut-output : (a b : ℕ) → maxRows < a → maxWords < b → (rows words : List ℕ)
+      → batchOutput n k (take a rows) reading (take b words) ≡ batchOutput n k rows reading words
+  cut-output a b more-rows more-words rows words = go (decLe (length rows) a) (decLe (length words) b)
     where
-      go : Dec (length rows ≤ 33) → Dec (length words ≤ 513)
-          → batchOutput n k (take 33 rows) reading (take 513 words) ≡ batchOutput n k rows reading words
+      go : Dec (length rows ≤ a) → Dec (length words ≤ b) → batchOutput n k (take a rows) reading (take b words) ≡ batchOutput n k rows reading words
       go (no r) w =
           let (c, e) = unless-refused (inRange n k) OutOfRange RowCount in
-          let long : length (take 33 rows) ≡ 33 = length-take-le 33 rows (omega arith) in
-          same-output (take 33 rows) (take 513 words) rows words c (many-rows (take 33 rows) (take 513 words) c (omega arith) e)
+          let long : length (take a rows) ≡ a = length-take-le a rows (omega arith) in
+          same-output (take a rows) (take b words) rows words c (many-rows (take a rows) (take b words) c (omega arith) e)
           (many-rows rows words c (omega arith) e)
-      go (yes r) (yes w) = rw (take-all 33 rows r, take-all 513 words w) refl
+      go (yes r) (yes w) = rw (take-all a rows r, take-all b words w) refl
       go (yes r) (no w) =
           let (c, e) = before-refused rows in
-          let long : length (take 513 words) ≡ 513 = length-take-le 513 words (omega arith) in
-          rw (take-all 33 rows r)
-          (same-output rows (take 513 words) rows words c (many-words rows (take 513 words) (omega arith) ∙ e) (many-words rows words (omega arith) ∙ e))
+          let long : length (take b words) ≡ b = length-take-le b words (omega arith) in
+          rw (take-all a rows r)
+          (same-output rows (take b words) rows words c (many-words rows (take b words) (omega arith) ∙ e) (many-words rows words (omega arith) ∙ e))
+
+  -- and lists with room for so many are loaded with what the sheet's own are printed for
+  pub cut-loaded : {s : List ℕ} {at count : ℕ} {before : List ℕ} {r : ℕ} {after : List ℕ} {from many : ℕ} {old : List ℕ} {m : ℕ} {new : List ℕ}
+      → Loaded s at count before r after → Loaded s from many old m new → maxRows < length before → maxWords < length old
+      → batchOutput n k (take r after) reading (take m new) ≡ batchOutput n k (wordsAt s at count) reading (wordsAt s from many)
+  cut-loaded L M more-rows more-words =
+      ap₂ (λ (x y : List ℕ). batchOutput n k x reading y) (loaded-cut L _ refl) (loaded-cut M _ refl) ∙ cut-output _ _ more-rows more-words _ _

@@ -5,6 +5,9 @@ use libc::STDOUT_FILENO;
 use words::answer::Answer;
 use words::answer::number;
 use words::answer::value;
+use words::limits::MAX_CHECKS;
+use words::limits::MAX_ROWS;
+use words::limits::WEIGHT_SLOTS;
 ghost use Rattle.io.specs.Counts.{Counts};
 
 // What every slot holds that is lent to a call: of the codewords, of the counts, of the working list.
@@ -111,17 +114,17 @@ pub(crate) fn counts(bytes: &[u8]) {
     list(&xs[..size], UNUSED_COUNT as u32);
 }
 
-pub(crate) fn rows(xs: &[u32; 16]) {
+pub(crate) fn rows(xs: &[u32; MAX_ROWS]) {
     text(b", rows");
     items(xs);
 }
 
-pub(crate) fn checks(xs: &[u32; 12]) {
+pub(crate) fn checks(xs: &[u32; MAX_CHECKS]) {
     text(b", checks");
     items(xs);
 }
 
-pub(crate) fn weights(xs: &[u32; 33]) {
+pub(crate) fn weights(xs: &[u32; WEIGHT_SLOTS]) {
     text(b", weights");
     items(xs);
 }

@@ -8,14 +8,14 @@ use native.Mathlib.Omega.{arith}
 use lib.Dec.{eqb}
 use lib.ListN.{length, take}
 use borrow.Author.Tests.{eqb-false}
-use Rattle.coding.specs.Matrix.{Independent, Depends, dependsAt}
+use Rattle.coding.specs.Matrix.{Inside, Independent, Depends, dependsAt}
 use Rattle.coding.proofs.DependLaws.{firstDependent, dependent-is, dependent-there, dependent-before, dependent-independent, none-independent, independent-none}
 use Rattle.coding.proofs.SearchLaws.{first-le}
-use Rattle.words.specs.Limits.{inRange}
+use Rattle.words.specs.Limits.{width, inRange}
 use Rattle.words.specs.Refusal.{unless, andThen}
 use Rattle.words.specs.Shape.{firstOutside, shapeAnswer}
-use Rattle.words.proofs.AnswerLaws.{first-refused, first-passes, first-done, andThen-done, Numbered, Between, unless-numbered, andThen-numbered}
-use Rattle.words.proofs.ShapeLaws.{shape-in, in-shape}
+use Rattle.words.proofs.AnswerLaws.{first-refused, first-passes, first-done, andThen-done, Numbered, Between, Other, unless-numbered, andThen-numbered}
+use Rattle.words.proofs.ShapeLaws.{shape-in, in-shape, shape-other}
 use Rattle.words.specs.Accepted.{matrixAnswer, Accepted}
 use Rattle.words.specs.declared.answer.Refusal.{Refusal}
 use Rattle.words.specs.declared.answer.Refusal.the-variants.{OutOfRange, RowCount, RowOutside, Dependent}
@@ -87,3 +87,10 @@ matrix-numbered n k rows =
     (unless-numbered (Between 1 4) (eqb (length rows) k) RowCount _ (omega arith, omega arith)
     (unless-numbered (Between 1 4) (eqb (firstOutside n rows) (length rows)) (RowOutside (firstOutside n rows)) Done (omega arith, omega arith) tt)))
     (unless-numbered (Between 1 4) (eqb (firstDependent rows) (length rows)) (Dependent (firstDependent rows)) Done (omega arith, omega arith) tt)
+
+-- 02, No. 7: at 32 places never 3
+pub matrix-other : (n k : ℕ) (rows : List ℕ) → n ≡ width → Inside width rows → Numbered (Other 3) (matrixAnswer n k rows)
+unfolding matrixAnswer
+matrix-other n k rows e f =
+    rw e (andThen-numbered (Other 3) (shapeAnswer width k rows) _ (shape-other k rows f)
+    (unless-numbered (Other 3) (eqb (firstDependent rows) (length rows)) (Dependent (firstDependent rows)) Done (λ z. omega (arith, z)) tt))

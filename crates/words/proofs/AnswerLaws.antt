@@ -3,13 +3,13 @@ use mathlib.Core.Path.{_≡_, refl, ap, sym, _∙_}
 use mathlib.Core.Logic.{_≢_}
 use mathlib.Core.List.{List, _++_, map}
 use mathlib.Core.Bool.{Bool, true, false}
-use Prim.Native.Nat.{ℕ, _+_, _≤_}
+use Prim.Native.Nat.{ℕ, _+_, _≤_, _<_}
 use native.Mathlib.Omega.{arith}
 use lib.Dec.{eqb}
 use lib.ListN.{length, drop, length-map}
 use borrow.Author.Tests.{eqb-true, eq-eqb, ne-eqb}
 use Rattle.coding.specs.Lists.{first}
-use Rattle.words.specs.Refusal.{numberOf, unless, refuseFirst, andThen, onDone}
+use Rattle.words.specs.Refusal.{numberOf, unless, refuseFirst, andThen, Never, onDone}
 use Rattle.words.specs.declared.answer.Refusal.{Refusal}
 use Rattle.words.specs.declared.answer.Answer.{Answer}
 use Rattle.words.specs.declared.answer.Answer.the-variants.{Done, Refused}
@@ -77,6 +77,20 @@ module _ (P : ℕ → Type 0) where
   pub numbered-as : (Q : ℕ → Type 0) → ((m : ℕ) → Q m → P m) → (a : Answer) → Numbered Q a → Numbered P a
   numbered-as Q f Done h = tt
   numbered-as Q f (Refused c) h = f (numberOf c) h
+
+-- an answer of which no cause has this number
+abbrev pub Other : ℕ → ℕ → Type 0
+Other m x = x ≢ m
+
+pub never : (m : ℕ) (a r : Answer) → r ≡ a → Numbered (Other m) a → Never m r
+never m a r e h c d = rw (sym e ∙ d) at h
+
+-- such as a success, and one whose numbers are all smaller
+pub never-done : (m : ℕ) → Never m Done
+never-done m c e = refused-done (sym e)
+
+pub below : (m a b : ℕ) (r : Answer) → b < m → Numbered (Between a b) r → Numbered (Other m) r
+below m a b r l h = numbered-as (Other m) (Between a b) (λ x i e. omega (arith, i, e)) r h
 
 -- ---- what an answer leaves in a lent list
 

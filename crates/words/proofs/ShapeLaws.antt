@@ -1,5 +1,5 @@
 -- Laws of the causes 1 to 3. Assumes nothing.
-use mathlib.Core.Path.{_≡_, refl, ap}
+use mathlib.Core.Path.{_≡_, refl, sym, ap}
 use mathlib.Core.List.{List}
 use mathlib.Core.Bool.{Bool, true, false, not, _&&_}
 use Prim.Native.Nat.{ℕ, _+_, _^_}
@@ -10,9 +10,11 @@ use lib.ListN.{length, getD}
 use borrow.Author.Tests.{leb-true, le-leb, eqb-true, eq-eqb, lt-ltb, ltb-true, not-false}
 use Rattle.coding.specs.Matrix.{Inside}
 use Rattle.coding.proofs.SearchLaws.{first-is, first-before}
-use Rattle.words.specs.Limits.{maxPlaces, maxRows, maxChecks, InRange, inRange}
+use Rattle.words.specs.Limits.{maxPlaces, maxRows, maxChecks, width, InRange, inRange}
+use Rattle.words.specs.Refusal.{refuseFirst}
 use Rattle.words.specs.Shape.{outside, firstOutside, shapeAnswer}
-use Rattle.words.proofs.AnswerLaws.{unless-done, first-done}
+use Rattle.words.proofs.AnswerLaws.{unless-done, first-passes, first-done, Numbered, Other, unless-numbered}
+use Rattle.words.specs.declared.answer.Refusal.{Refusal}
 use Rattle.words.specs.declared.answer.Refusal.the-variants.{OutOfRange, RowCount, RowOutside}
 use Rattle.words.specs.declared.answer.Answer.the-variants.{Done}
 
@@ -85,3 +87,20 @@ in-shape n k rows s =
       eq-eqb (length rows) k (s .count),
       eq-eqb (firstOutside n rows) (length rows) (inside-none n rows (s .inside)),
     )
+
+-- ---- 02, No. 7: at 32 places every number of 32 bits is a word
+
+-- none of a list of such numbers has a one outside
+pub every-word : (words : List ℕ) → Inside width words → firstOutside width words ≡ length words
+every-word words f = inside-none width words f
+
+-- so whatever cause refuses a word outside passes them
+pub every-passes : (c : ℕ → Refusal) (words : List ℕ) → Inside width words → refuseFirst (outside width words) (length words) c Done ≡ Done
+every-passes c words f = sym (first-passes (outside width words) (length words) c Done (firstOutside width words) refl (every-word words f))
+
+-- as cause 3 does
+pub shape-other : (k : ℕ) (rows : List ℕ) → Inside width rows → Numbered (Other 3) (shapeAnswer width k rows)
+unfolding shapeAnswer
+shape-other k rows f =
+    unless-numbered (Other 3) (inRange width k) OutOfRange _ (λ e. omega (arith, e))
+    (unless-numbered (Other 3) (eqb (length rows) k) RowCount _ (λ e. omega (arith, e)) (rw (every-passes RowOutside rows f) tt))

@@ -2,17 +2,18 @@
 use mathlib.Core.Path.{_≡_}
 use mathlib.Core.List.{List}
 use Prim.Native.Nat.{ℕ, _≤_}
-use lib.Dec.{leb}
+use native.Mathlib.Omega.{arith}
+use lib.Dec.{eqb, leb}
 use lib.ListN.{length}
 use borrow.Author.Tests.{leb-true}
 use Rattle.coding.specs.Matrix.{Inside}
-use Rattle.words.specs.Limits.{maxWords}
-use Rattle.words.specs.Shape.{outside}
+use Rattle.words.specs.Limits.{maxWords, width}
+use Rattle.words.specs.Shape.{outside, firstOutside}
 use Rattle.words.specs.Lists.{manyAnswer, insideAnswer, roomAnswer, listAnswer}
 use Rattle.words.specs.declared.answer.Refusal.the-variants.{TooManyWords, WordOutside, ShortOutput}
 use Rattle.words.specs.declared.answer.Answer.the-variants.{Done}
-use Rattle.words.proofs.AnswerLaws.{unless-done, first-done, andThen-done}
-use Rattle.words.proofs.ShapeLaws.{outside-none}
+use Rattle.words.proofs.AnswerLaws.{unless-done, first-done, andThen-done, Numbered, Other, unless-numbered, andThen-numbered}
+use Rattle.words.proofs.ShapeLaws.{outside-none, every-passes}
 
 -- what 7 and 8 leave known when they pass
 pub inside-in : (words : List ℕ) (places : ℕ) → insideAnswer words places ≡ Done → Inside places words
@@ -37,3 +38,22 @@ list-in words places slots e =
       inside = inside-in words places inside;
       room = room-in (length words) slots room;
     }
+
+-- ---- the numbers of these causes
+
+module _ (P : ℕ → Type 0) (words : List ℕ) (places slots : ℕ) (six : P 6) (eight : P 8) where
+  -- where the words pass 7, or 7 is such a number
+  around : Numbered P (insideAnswer words places) → Numbered P (listAnswer words places slots)
+  unfolding listAnswer
+  around seven =
+      andThen-numbered P (manyAnswer words) _ (unless-numbered P (leb (length words) maxWords) TooManyWords Done six tt)
+      (andThen-numbered P (insideAnswer words places) _ seven (unless-numbered P (leb (length words) slots) ShortOutput Done eight tt))
+
+  pub list-numbered : P 7 → Numbered P (listAnswer words places slots)
+  list-numbered seven =
+      around (unless-numbered P (eqb (firstOutside places words) (length words)) (WordOutside (firstOutside places words)) Done seven tt)
+
+-- 02, No. 7: at 32 places never 7
+pub list-other : (words : List ℕ) (places slots : ℕ) → places ≡ width → Inside width words → Numbered (Other 7) (listAnswer words places slots)
+list-other words places slots e f =
+    around (Other 7) words places slots (λ z. omega (arith, z)) (λ z. omega (arith, z)) (rw (e, every-passes WordOutside words f) tt)

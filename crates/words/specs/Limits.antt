@@ -1,13 +1,14 @@
--- The limits of 01, "Words and matrices" and cause 6, and the sizes of the tables. No other definition has these numbers.
+-- The limits of 01, "Words and matrices" and cause 6, those of n and k as 02, No. 7, has them, and the sizes of the tables. No other
+-- definition has these numbers.
 use mathlib.Core.Bool.{Bool, _&&_}
 use Prim.Native.Nat.{ℕ, _+_, _≤_}
 use lib.Dec.{leb}
 
 abbrev pub maxPlaces : ℕ
-maxPlaces = 28
+maxPlaces = 32
 
 abbrev pub maxRows : ℕ
-maxRows = 16
+maxRows = 20
 
 abbrev pub maxChecks : ℕ
 maxChecks = 12
@@ -27,7 +28,7 @@ width = 32
 abbrev pub weightSlots : ℕ
 weightSlots = 33
 
--- n is 2 to 28, k is 1 to 16, n - k is 1 to 12
+-- n is 2 to 32, k is 1 to 20, n - k is 1 to 12
 pub record InRange (n k : ℕ) : Type 0 where
   pub places : (2 ≤ n) × (n ≤ maxPlaces)
   pub rows : (1 ≤ k) × (k ≤ maxRows)

@@ -1,4 +1,6 @@
 -- 01, "Causes and numbers", and 02, No. 3 and No. 5: the number of each cause, the value beside it, and what a refusal leaves in a lent list.
+use mathlib.Core.Path.{_≡_}
+use mathlib.Core.Logic.{_≢_}
 use mathlib.Core.List.{List, _++_}
 use mathlib.Core.Bool.{Bool, true, false}
 use Prim.Native.Nat.{ℕ}
@@ -56,6 +58,10 @@ refuseFirst fails m c later = unless (eqb (first fails m) m) (c (first fails m))
 abbrev pub andThen : Answer → Answer → Answer
 andThen Done later = later
 andThen (Refused c) later = Refused c
+
+-- the answer is no refusal under this number
+abbrev pub Never : ℕ → Answer → Type 0
+Never m r = (c : Refusal) → r ≡ Refused c → numberOf c ≢ m
 
 -- a lent list at the end: the new entries and every later slot as it was, or all as it was
 abbrev pub onDone : Answer → List ℕ → List ℕ → List ℕ

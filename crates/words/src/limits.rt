@@ -1,9 +1,9 @@
-// The limits of document 01, for the code; specs/Limits.antt has them for the contracts.
+// The limits of document 01, those of n and k as 02, No. 7, has them, for the code; specs/Limits.antt has them for the contracts.
 pub const MIN_PLACES: u32 = 2;
 
-pub const MAX_PLACES: u32 = 28;
+pub const MAX_PLACES: u32 = 32;
 
-pub const MAX_ROWS: usize = 16;
+pub const MAX_ROWS: usize = 20;
 
 pub const MAX_CHECKS: usize = 12;
 

@@ -1,18 +1,9 @@
 //! Any generator matrix.
-use crate::inputs::{how_many, matrix, received, slots, spoil, Matrix};
+use crate::inputs::{how_many, largest, matrix, matrix_in, received, slots, spoil, Matrix};
 use crate::random::Random;
 use crate::{cause, causes, outcome, plain, told, Cause};
 use relaymarten::{raw, Lent, Outcome, Reading, Refusal, MAX_CHECKS, MAX_LEADERS, MAX_ROWS, WEIGHTS};
 use std::collections::BTreeSet;
-
-/// Mostly short codes, so that many of them can be walked.
-pub fn longest(round: usize) -> u32 {
-    if round % 5 == 0 {
-        28
-    } else {
-        16
-    }
-}
 
 fn padded<const N: usize>(list: Vec<u32>) -> [u32; N] {
     std::array::from_fn(|i| list.get(i).copied().unwrap_or(0))
@@ -23,7 +14,7 @@ fn describe() {
     let mut r = Random::of("describe");
     let mut seen = BTreeSet::new();
     for round in 0..5000 {
-        let m = matrix(&mut r, longest(round));
+        let m = matrix_in(&mut r, round);
         let ours = told(relaymarten::describe(m.n, m.k, &m.rows));
         seen.insert(cause(&ours));
         match (ours, plain::accept(m.n, m.k, &m.rows)) {
@@ -46,7 +37,7 @@ fn one_code() {
     let mut r = Random::of("one_code");
     let mut accepted = 0;
     for round in 0..2000 {
-        let m = matrix(&mut r, longest(round));
+        let m = matrix_in(&mut r, round);
         let Ok(described) = relaymarten::describe(m.n, m.k, &m.rows) else {
             continue;
         };
@@ -76,25 +67,72 @@ fn every_n_and_k() {
     }
 }
 
-/// A refused description is 0 in every part, and number and value are written in any case.
+/// A list of so many entries, and ten marked ones behind them.
+fn marked(entries: usize) -> Vec<u32> {
+    vec![0xA5A5A5A5; entries + 10]
+}
+
+/// These entries, 0 up to so many, and the marked ones.
+fn written(list: Vec<u32>, entries: usize) -> Vec<u32> {
+    let mut all = list;
+    all.resize(entries, 0);
+    all.resize(entries + 10, 0xA5A5A5A5);
+    all
+}
+
+/// One description through pointers into longer lists: each is written to its length, 20, 12 and 33, and not behind it. A refused one is
+/// 0 in every part, and number and value are written in any case.
+fn describe_raw(m: &Matrix) {
+    let (mut reduced, mut checks, mut counts) = (marked(MAX_ROWS), marked(MAX_CHECKS), marked(WEIGHTS));
+    let (mut dmin, mut lightest, mut value) = (7, 7, 7);
+    let lists = (reduced.as_mut_ptr().cast(), checks.as_mut_ptr().cast(), counts.as_mut_ptr().cast());
+    let number = unsafe {
+        let rows = (m.rows.as_ptr(), m.rows.len());
+        raw::relay_describe(m.n, m.k, rows.0, rows.1, lists.0, lists.1, lists.2, &mut dmin, &mut lightest, &mut value)
+    };
+    let ours = (number, value, [reduced, checks, counts], dmin, lightest);
+    let (told, lists, dmin, lightest) = match plain::accept(m.n, m.k, &m.rows) {
+        Ok(code) => ((0, 0), [code.reduced(), code.checks(), code.weight_counts()], code.dmin(), code.lightest()),
+        Err(e) => (e, [vec![], vec![], vec![]], 0, 0),
+    };
+    let [reduced, checks, counts] = lists;
+    let lists = [written(reduced, 20), written(checks, 12), written(counts, 33)];
+    assert_eq!(ours, (told.0, told.1, lists, dmin, lightest), "{m:?}");
+}
+
 #[test]
-fn refused_description() {
-    let mut r = Random::of("refused_description");
+fn description_lists() {
+    let mut r = Random::of("description_lists");
     for _ in 0..500 {
-        let m = matrix(&mut r, 12);
-        let (mut reduced, mut checks, mut counts) = ([7; MAX_ROWS], [7; MAX_CHECKS], [7; WEIGHTS]);
-        let (mut dmin, mut lightest, mut value) = (7, 7, 7);
-        let (rows, lists) = ((m.rows.as_ptr(), m.rows.len()), (&mut reduced, &mut checks, &mut counts));
-        let number = unsafe {
-            raw::relay_describe(m.n, m.k, rows.0, rows.1, lists.0, lists.1, lists.2, &mut dmin, &mut lightest, &mut value)
-        };
-        match plain::accept(m.n, m.k, &m.rows) {
-            Ok(_) => assert_eq!((number, value), (0, 0)),
-            Err(e) => {
-                assert_eq!((number, value), e);
-                assert_eq!((reduced, checks, counts, dmin, lightest), ([0; 16], [0; 12], [0; 33], 0, 0));
-            }
-        }
+        describe_raw(&matrix(&mut r, 12));
+    }
+    for rows in [20, 19, 21] {
+        let mut m = largest(&mut r);
+        m.rows.resize(rows, 1);
+        describe_raw(&m);
+    }
+}
+
+/// At n = 32 every number is a word: a row and a word of 32 ones are accepted, and that codeword is clean and read back.
+#[test]
+fn every_number_a_word() {
+    let mut r = Random::of("every_number_a_word");
+    let mut m = largest(&mut r);
+    m.rows[19] = u32::MAX;
+    let (mut words, mut counts, mut work) = ([7; 2], [7; 2], [7; MAX_LEADERS]);
+    let lent = Lent { codewords: &mut words, counts: &mut counts, work: &mut work };
+    let batch = relaymarten::decode(32, 20, &m.rows, Reading::Nearest, &[u32::MAX, u32::MAX ^ 1 << 31], lent).unwrap();
+    assert_eq!(batch.get(0), Some(Outcome::Clean(u32::MAX)));
+    assert!(batch.get(1).unwrap().count().unwrap() <= 1);
+    let mut read = [7; 1];
+    assert_eq!(relaymarten::message(32, 20, &m.rows, &[u32::MAX], &mut read), Ok(()));
+    assert_eq!(read, [1 << 19]);
+    assert_eq!(relaymarten::encode(32, 20, &m.rows, &[0, 1 << 20], &mut [7; 2]), Err(Refusal::WordOutside(1)));
+    for _ in 0..200 {
+        m.rows[r.below(20)] = r.next() as u32;
+        let words = [0, u32::MAX, r.next() as u32];
+        let answer = relaymarten::message(32, 20, &m.rows, &words, &mut [7; 3]);
+        assert!(!matches!(answer, Err(Refusal::RowOutside(_) | Refusal::WordOutside(_))), "{answer:?} {m:?} {words:?}");
     }
 }
 
@@ -134,8 +172,8 @@ fn leaders_long() {
     for (n, k, first) in [(18, 8, 0), (18, 8, 10), (20, 8, 0), (20, 8, 12)] {
         leaders_once(&mut r, &Matrix { n, k, rows: (first..first + k).map(|i| 1 << i).collect() });
     }
-    let rows = (0..16).map(|i| 1 << i | r.word(28) & 0xFFF0000).collect();
-    leaders_once(&mut r, &Matrix { n: 28, k: 16, rows });
+    let m = largest(&mut r);
+    leaders_once(&mut r, &m);
 }
 
 /// A refused call for the leaders writes 0 for the check rows and the number, and number and value in any case.
@@ -196,7 +234,7 @@ fn encode_and_message() {
     let mut r = Random::of("encode_and_message");
     let mut seen = [BTreeSet::new(), BTreeSet::new()];
     for round in 0..6000 {
-        let m = matrix(&mut r, longest(round));
+        let m = matrix_in(&mut r, round);
         let places = m.k.clamp(1, 32);
         let mut messages: Vec<u32> = (0..how_many(&mut r)).map(|_| r.word(places)).collect();
         spoil(&mut r, &mut messages, places);
@@ -276,8 +314,7 @@ fn decode_long() {
         let words = received(&mut r, &m);
         decode_once(&mut r, &m, &words, &mut seen);
     }
-    let rows = (0..16).map(|i| 1 << i | r.word(28) & 0xFFF0000).collect();
-    let m = Matrix { n: 28, k: 16, rows };
+    let m = largest(&mut r);
     let words = received(&mut r, &m);
     decode_once(&mut r, &m, &words, &mut seen);
     assert!(seen.causes.contains(&(0, false)));

@@ -1,4 +1,5 @@
 //! Random matrices, words and lists: mostly accepted ones, else with one or several things wrong.
+use crate::plain::{MAX_PLACES, MAX_ROWS};
 use crate::random::Random;
 
 #[derive(Debug)]
@@ -29,7 +30,7 @@ fn independent(r: &mut Random, n: u32, k: usize) -> Vec<u32> {
 /// Any n or k: small, or at a limit, or large.
 fn any_number(r: &mut Random) -> u32 {
     match r.below(4) {
-        0 => [0, 1, 2, 12, 13, 14, 16, 17, 28, 29, 32, 33, u32::MAX - 11, u32::MAX][r.below(14)],
+        0 => [0, 1, 2, 12, 13, 14, 19, 20, 21, 31, 32, 33, u32::MAX - 11, u32::MAX][r.below(14)],
         _ => r.below(34) as u32,
     }
 }
@@ -37,14 +38,37 @@ fn any_number(r: &mut Random) -> u32 {
 /// Makes a row the sum of some rows before it, be it none.
 fn make_dependent(r: &mut Random, rows: &mut [u32]) {
     let i = r.below(rows.len());
-    let u = r.word(16);
+    let u = r.word(MAX_ROWS);
     rows[i] = (0..i).filter(|j| u >> j & 1 == 1).fold(0, |sum, j| sum ^ rows[j]);
 }
 
 /// A matrix of n from 2 to `longest`.
 pub fn matrix(r: &mut Random, longest: u32) -> Matrix {
-    let mut n = 2 + r.below(longest as usize - 1) as u32;
-    let (least, most) = (n.saturating_sub(12).max(1), (n - 1).min(16));
+    let n = 2 + r.below(longest as usize - 1) as u32;
+    matrix_of(r, n)
+}
+
+/// Mostly short codes, so that many of them can be walked; every 400th has 29 places to the limit.
+pub fn matrix_in(r: &mut Random, round: usize) -> Matrix {
+    match round {
+        _ if round % 400 == 0 => {
+            let n = 29 + r.below(MAX_PLACES as usize - 28) as u32;
+            matrix_of(r, n)
+        }
+        _ if round % 5 == 0 => matrix(r, 28),
+        _ => matrix(r, 16),
+    }
+}
+
+/// A random matrix at the limit of n and k: the identity, and any check places.
+pub fn largest(r: &mut Random) -> Matrix {
+    let rows = (0..MAX_ROWS).map(|i| 1 << i | r.word(MAX_PLACES) >> MAX_ROWS << MAX_ROWS).collect();
+    Matrix { n: MAX_PLACES, k: MAX_ROWS, rows }
+}
+
+/// A matrix of this n, mostly.
+fn matrix_of(r: &mut Random, mut n: u32) -> Matrix {
+    let (least, most) = (n.saturating_sub(12).max(1), (n - 1).min(MAX_ROWS));
     let mut k = least + r.below((most - least + 1) as usize) as u32;
     let mut rows = match r.below(8) {
         0 => (0..k).map(|_| r.word(n)).collect(),
@@ -85,7 +109,7 @@ pub fn spoil(r: &mut Random, words: &mut [u32], places: u32) {
 
 /// A sum of rows.
 pub fn codeword(r: &mut Random, m: &Matrix) -> u32 {
-    let u = r.word(16);
+    let u = r.word(MAX_ROWS);
     m.rows.iter().enumerate().filter(|(i, _)| u >> i & 1 == 1).fold(0, |c, (_, row)| c ^ row)
 }
 

@@ -1,6 +1,6 @@
 //! Interleaved words, and the decode after sorting back.
-use crate::codes::{compare_outcomes, longest};
-use crate::inputs::{codeword, matrix, slots, spoil, Matrix};
+use crate::codes::compare_outcomes;
+use crate::inputs::{codeword, largest, matrix, matrix_in, slots, spoil, Matrix};
 use crate::random::Random;
 use crate::{cause, causes, plain, told, Cause};
 use relaymarten::{raw, Lent};
@@ -96,7 +96,7 @@ fn length_near(r: &mut Random, length: usize) -> usize {
     match r.below(20) {
         0 => length + 1 + r.below(3),
         1 => length.saturating_sub(1 + r.below(3)),
-        2 => r.below(500),
+        2 => r.below(600),
         _ => length,
     }
 }
@@ -156,7 +156,7 @@ fn both_directions() {
     let mut r = Random::of("both_directions");
     let mut seen = [BTreeSet::new(), BTreeSet::new()];
     for round in 0..6000 {
-        let m = matrix(&mut r, longest(round));
+        let m = matrix_in(&mut r, round);
         seen[0].insert(interleave_once(&mut r, &m));
         seen[1].insert(deinterleave_once(&mut r, &m));
     }
@@ -262,8 +262,8 @@ fn decode_long() {
         let m = matrix(&mut r, 22);
         decode_once(&mut r, &m, &mut seen);
     }
-    let rows = (0..16).map(|i| 1 << i | r.word(28) & 0xFFF0000).collect();
-    decode_once(&mut r, &Matrix { n: 28, k: 16, rows }, &mut seen);
+    let m = largest(&mut r);
+    decode_once(&mut r, &m, &mut seen);
     assert!(seen.causes.contains(&(0, false)));
 }
 

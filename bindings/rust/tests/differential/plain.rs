@@ -1,7 +1,9 @@
 //! Plain decoding from the specification's definitions alone, by walks over all codewords: nothing here is shared with the library or
 //! its wrapper.
-use std::collections::{HashMap, HashSet};
+use std::collections::HashMap;
 
+pub const MAX_PLACES: u32 = 32;
+pub const MAX_ROWS: u32 = 20;
 const MAX_WORDS: usize = 512;
 const FAR: u8 = 255;
 
@@ -35,7 +37,7 @@ fn sums(rows: &[u32]) -> Vec<u32> {
 
 /// Causes 1 to 4.
 pub fn accept(n: u32, k: u32, rows: &[u32]) -> Result<Code, Refused> {
-    if !(2..=28).contains(&n) || !(1..=16).contains(&k) || n < k + 1 || n > k + 12 {
+    if !(2..=MAX_PLACES).contains(&n) || !(1..=MAX_ROWS).contains(&k) || n < k + 1 || n > k + 12 {
         return refused(1, 0);
     }
     if rows.len() != k as usize {
@@ -44,15 +46,10 @@ pub fn accept(n: u32, k: u32, rows: &[u32]) -> Result<Code, Refused> {
     if let Some(i) = outside(rows, n) {
         return refused(3, i);
     }
-    let mut span = HashSet::from([0u32]);
-    for (i, &row) in rows.iter().enumerate() {
-        if span.contains(&row) {
-            return refused(4, i);
-        }
-        let more: Vec<u32> = span.iter().map(|c| c ^ row).collect();
-        span.extend(more);
+    match (0..rows.len()).find(|&i| sums(&rows[..i]).contains(&rows[i])) {
+        Some(i) => refused(4, i),
+        None => Ok(Code { n, k, codewords: sums(rows) }),
     }
-    Ok(Code { n, k, codewords: sums(rows) })
 }
 
 impl Code {
@@ -71,9 +68,8 @@ impl Code {
 
     /// The leftmost ones of the codewords, rising.
     fn pivots(&self) -> Vec<u32> {
-        let mut p: Vec<u32> = self.nonzero().map(u32::trailing_zeros).collect::<HashSet<_>>().into_iter().collect();
-        p.sort();
-        p
+        let leftmost = self.nonzero().fold(0u32, |places, c| places | 1 << c.trailing_zeros());
+        (0..self.n).filter(|p| leftmost >> p & 1 == 1).collect()
     }
 
     /// The codeword that has a one at pivot i and at no other pivot.
@@ -118,7 +114,7 @@ impl Code {
     /// up to the leader that comes last.
     fn tried(&self) -> u32 {
         let last = self.leaders().into_iter().max_by_key(|e| (e.count_ones(), *e)).unwrap();
-        (0..1 << self.n).filter(|v: &u32| (v.count_ones(), *v) <= (last.count_ones(), last)).count() as u32
+        (0..1u64 << self.n).map(|v| v as u32).filter(|v| (v.count_ones(), *v) <= (last.count_ones(), last)).count() as u32
     }
 
     /// Codeword and count, within the radius or, without one, nearest.
@@ -173,12 +169,12 @@ pub fn encode(n: u32, k: u32, rows: &[u32], messages: &[u32], out: &mut [u32]) -
 pub fn message(n: u32, k: u32, rows: &[u32], words: &[u32], out: &mut [u32]) -> Result<(), Refused> {
     let code = accept(n, k, rows)?;
     lists(words, n, out.len())?;
-    let read: HashMap<u32, u32> = code.codewords.iter().enumerate().map(|(u, &c)| (c, u as u32)).collect();
-    if let Some(i) = words.iter().position(|w| !read.contains_key(w)) {
+    let read: Vec<Option<usize>> = words.iter().map(|w| code.codewords.iter().position(|c| c == w)).collect();
+    if let Some(i) = read.iter().position(Option::is_none) {
         return refused(10, i);
     }
-    for (slot, w) in out.iter_mut().zip(words) {
-        *slot = read[w];
+    for (slot, message) in out.iter_mut().zip(read.into_iter().flatten()) {
+        *slot = message as u32;
     }
     Ok(())
 }

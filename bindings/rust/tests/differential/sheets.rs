@@ -1,5 +1,5 @@
 //! The run over a code sheet.
-use crate::inputs::{matrix, received};
+use crate::inputs::{largest, matrix, received};
 use crate::random::Random;
 use crate::{cause, causes, plain, told};
 use relaymarten::{raw, run, MAX_OUTPUT};
@@ -101,9 +101,9 @@ fn output() {
 #[test]
 fn longest_output() {
     let mut r = Random::of("longest output");
-    let rows: Vec<u32> = (0..16).map(|i| 1 << i | r.word(28) & 0xFFF0000).collect();
-    let words: Vec<u32> = (0..512).map(|_| r.word(28)).collect();
-    let s = joined(vec![(1, vec![28]), (2, vec![16]), (3, bytes(&rows)), (5, bytes(&words))]);
+    let m = largest(&mut r);
+    let words: Vec<u32> = (0..512).map(|_| r.word(m.n)).collect();
+    let s = joined(vec![(1, vec![m.n as u8]), (2, vec![m.k as u8]), (3, bytes(&m.rows)), (5, bytes(&words))]);
     let mut out = [0; MAX_OUTPUT];
     assert_eq!(String::from_utf8_lossy(run(&s, &mut out).unwrap()), plain::output(&s));
 }

@@ -6,9 +6,10 @@ use native.Mathlib.Omega.{arith}
 use lib.ListN.{length, drop}
 use borrow.Author.Needs.{needs}
 use Rattle.coding.specs.Lists.{padded}
+use Rattle.coding.specs.Matrix.{Inside}
 use Rattle.coding.specs.Check.{checks}
 use Rattle.coding.proofs.MachineLaws.{shl-one}
-use Rattle.words.specs.Limits.{maxChecks}
+use Rattle.words.specs.Limits.{maxChecks, width}
 use Rattle.words.specs.Accepted.{Accepted}
 use Rattle.words.specs.declared.answer.Answer.{Answer}
 use Rattle.words.specs.declared.answer.Answer.the-variants.{Done}
@@ -28,6 +29,15 @@ batch s = record { n = s .args .n; k = s .args .k; rows = s .args .rows .now; re
 
 abbrev lent : tie.Start → Lent
 lent s = record { codewords = s .args .out .now; counts = s .args .counts .now; work = s .args .work .now }
+
+-- rows and words are numbers of 32 bits
+wide : (c : tie.After-known-past)
+    → let a = start c .args in
+    Inside width (a .rows .now) × Inside width (a .words .now)
+wide c = (
+  λ i h. c .before .before .before .before .before .shared-slice-known .given i .fits,
+  λ i h. c .before .before .before .before .shared-slice-known2 .given i .fits,
+)
 
 -- ---- causes 1 to 8 have passed
 
@@ -64,7 +74,7 @@ returns c =
     let u = c .unmeasured .ensures in
     let r = c .before .enum-told2 .given .1 in
     let e = u .0 ∙ r in (
-      decode-refused (batch s) (lent s) _ _ e
+      decode-refused (batch s) (lent s) (wide k) _ _ e
           (e ∙ at-eight (a .n) (a .k) (a .rows .now) (a .reading) (a .words .now) _ _ _ _ (sym (k .known-past .ensures .answer) ∙ r)) _ refl,
       λ _. u .1 ∙ no-dmin _ _ _ e,
     )
@@ -77,7 +87,7 @@ returns-2 c =
     let a = s .args in
     let f = w .before .before .fill-leaders .ensures in
     let no = c .before .if1 .taken in (
-      decode-refused (batch s) (lent s) _ _ (u .0) (u .0 ∙ sym (ends w _ (work-short (a .n) (a .k) (a .rows .now) (accepted (passed w)) f no))) _
+      decode-refused (batch s) (lent s) (wide (passed w .before .before)) _ _ (u .0) (u .0 ∙ sym (ends w _ (work-short (a .n) (a .k) (a .rows .now) (accepted (passed w)) f no))) _
           (ap (λ (l : List ℕ). record { codewords = s .args .out .now; counts = s .args .counts .now; work = l })
           (list-kept f no)),
       λ _. u .1 ∙ no-dmin _ _ _ (u .0),

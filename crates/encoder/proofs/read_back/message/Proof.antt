@@ -5,7 +5,8 @@ use Prim.Native.Nat.{ℕ}
 use lib.ListN.{length, drop}
 use borrow.Author.Needs.{needs}
 use Rattle.coding.specs.Lists.{first}
-use Rattle.coding.specs.Matrix.{messageOf}
+use Rattle.coding.specs.Matrix.{messageOf, Inside}
+use Rattle.words.specs.Limits.{width}
 use Rattle.words.specs.Accepted.{matrixAnswer}
 use Rattle.words.specs.Lists.{listAnswer}
 use Rattle.words.specs.declared.answer.Refusal.the-variants.{NoCodeword}
@@ -21,6 +22,12 @@ use Rattle.encoder.proofs.read_back.message.Tie as tie
 
 abbrev start : tie.After-code-of → tie.Start
 start c = c .before .before .before .before
+
+-- rows and words are numbers of 32 bits
+wide : (c : tie.After-code-of)
+    → let a = start c .args in
+    Inside width (a .rows .now) × Inside width (a .words .now)
+wide c = (λ i h. c .before .before .before .shared-slice-known .given i .fits, λ i h. c .before .before .shared-slice-known2 .given i .fits)
 
 -- the code, past causes 1 to 4
 abbrev code : tie.After-list-cause → tie.After-code-of
@@ -61,7 +68,7 @@ returns c =
     let a = start r .args in
     let m = r .code-of .ensures .reduced .answer in
     let e = c .enum-told2 .given .1 in
-    messages-read (a .n) (a .k) (a .rows .now) (a .words .now) (a .out .now) (r .code-of .result .answer) (a .out .now)
+    messages-read (a .n) (a .k) (a .rows .now) (a .words .now) (a .out .now) (r .code-of .result .answer) (a .out .now) (wide r)
     (m ∙ stays (matrixAnswer (a .n) (a .k) (a .rows .now)) _ _ (sym m ∙ e)) (kept (r .code-of .result .answer) _ e _ _)
 
 returns-2 : tie.Need-returns-2
@@ -70,7 +77,7 @@ returns-2 c =
     let a = start (code r) .args in
     let l = r .list-cause .ensures in
     let e = c .enum-told4 .given .1 in
-    messages-read (a .n) (a .k) (a .rows .now) (a .words .now) (a .out .now) (r .list-cause .result) (a .out .now)
+    messages-read (a .n) (a .k) (a .rows .now) (a .words .now) (a .out .now) (r .list-cause .result) (a .out .now) (wide (code r))
     (l ∙ stays (listAnswer (a .words .now) (a .n) (length (a .out .now))) _ _ (sym l ∙ e)
     ∙ goes (matrixAnswer (a .n) (a .k) (a .rows .now)) _ (passed r)) (kept (r .list-cause .result) _ e _ _)
 
@@ -78,7 +85,7 @@ returns-3 : tie.Need-returns-3
 returns-3 c =
     let t = passed-at (c .before) in
     let a = start (code (t .before .before)) .args in
-    messages-read (a .n) (a .k) (a .rows .now) (a .words .now) (a .out .now) _ (a .out .now)
+    messages-read (a .n) (a .k) (a .rows .now) (a .words .now) (a .out .now) _ (a .out .now) (wide (code (t .before .before)))
     (first-refused (other (a .rows .now) (a .words .now)) (length (a .words .now)) NoCodeword Done _ (found (c .before)) (c .if1 .taken)
     ∙ past (a .n) (a .k) (a .rows .now) (a .words .now) (length (a .out .now)) (passed (t .before .before)) (listed t) _) refl
 
@@ -98,7 +105,7 @@ returns-4 c =
     let a = start (code l) .args in
     let rows = a .rows .now in
     let words = a .words .now in
-    messages-read (a .n) (a .k) rows words (a .out .now) _ _
+    messages-read (a .n) (a .k) rows words (a .out .now) _ _ (wide (code l))
     (first-passes (other rows words) (length words) NoCodeword Done _ (found (e .before)) (e .if1 .left)
     ∙ past (a .n) (a .k) rows words (length (a .out .now)) (passed l) (listed t) _)
     (written (messageOf rows) words (a .out .now) _

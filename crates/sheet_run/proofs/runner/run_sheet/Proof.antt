@@ -1,13 +1,8 @@
 -- `sheet_run::runner::run_sheet`: the lists are cut behind what a batch may have, which changes no answer. Assumes nothing.
-use mathlib.Core.Path.{ap₂, _∙_}
-use mathlib.Core.List.{List}
-use Prim.Native.Nat.{ℕ, zero}
-use lib.ListN.{length-replicate}
-use Rattle.sheet.specs.Words.{wordsIn}
-use Rattle.sheet_run.specs.Output.{batchOutput}
+use lib.Dec.{lit<}
 use Rattle.sheet_run.proofs.AppendLaws.{appends-as}
-use Rattle.sheet_run.proofs.LoadLaws.{loaded-length, loaded-cut}
-use Rattle.sheet_run.proofs.CutLaws.{cut-output}
+use Rattle.sheet_run.proofs.LoadLaws.{loaded-length}
+use Rattle.sheet_run.proofs.CutLaws.{cut-loaded}
 use borrow.Author.Needs.{needs}
 use Rattle.sheet_run.proofs.runner.run_sheet.Statement.{statement}
 use Rattle.sheet_run.proofs.runner.run_sheet.Tie as tie
@@ -26,12 +21,8 @@ returns c =
     let b = c .before .before in
     let w = words-loaded (b .before .before) in
     let r = rows-loaded w in
-    let a = start r .args in
-    let s = a .s in
-    appends-as (b .run-batch .ensures) _
-    (ap₂ (λ (x y : List ℕ). batchOutput (s .n) (s .k) x (s .reading) y)
-    (loaded-cut (r .load .ensures) 33 (length-replicate 33 zero)) (loaded-cut (w .load2 .ensures) 513 (length-replicate 513 zero))
-    ∙ cut-output (s .n) (s .k) (s .reading) (wordsIn (a .bytes .now) (s .rows)) (wordsIn (a .bytes .now) (s .words)))
+    let s = start r .args .s in
+    appends-as (b .run-batch .ensures) _ (cut-loaded (s .n) (s .k) (s .reading) (r .load .ensures) (w .load2 .ensures) (lit< tt) (lit< tt))
 
 pub run-sheet-spec : {M : Type 1} → statement M
 run-sheet-spec =
