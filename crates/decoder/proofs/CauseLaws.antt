@@ -4,7 +4,7 @@ use mathlib.Core.List.{List}
 use mathlib.Core.Bool.{Bool, true}
 use Prim.Native.Nat.{ℕ, _+_, _-_, _*_, _/_, _^_, _≤_, _<_, min}
 use native.Mathlib.Omega.{arith}
-use lib.Dec.{eqb, leb}
+use lib.Dec.{leb}
 use lib.ListN.{length}
 use borrow.Author.Tests.{leb-true, le-leb, lt-leb, eq-eqb}
 use Rattle.coding.specs.Matrix.{Inside}
@@ -14,12 +14,13 @@ use Rattle.words.specs.Refusal.{numberOf, andThen, ifDone}
 use Rattle.words.specs.Shape.{firstOutside}
 use Rattle.words.specs.Accepted.{matrixAnswer, Accepted}
 use Rattle.words.proofs.AcceptedLaws.{accepted-in, matrix-numbered, matrix-other}
-use Rattle.words.specs.Lists.{manyAnswer, insideAnswer, roomAnswer, listAnswer}
+use Rattle.words.specs.Lists.{roomAnswer, listAnswer}
 use Rattle.words.specs.declared.answer.Refusal.{Refusal}
-use Rattle.words.specs.declared.answer.Refusal.the-variants.{RadiusTooLarge, TooManyWords, WordOutside, ShortOutput, ShortWork}
+use Rattle.words.specs.declared.answer.Refusal.the-variants.{RadiusTooLarge, ShortOutput, ShortWork}
 use Rattle.words.specs.declared.answer.Answer.{Answer}
 use Rattle.words.specs.declared.answer.Answer.the-variants.{Done, Refused}
-use Rattle.words.proofs.AnswerLaws.{unless-done, andThen-done, andThen-assoc, stays, goes, Numbered, Between, Other, unless-numbered, andThen-numbered, numbered-as, below}
+use Rattle.words.proofs.AnswerLaws.{unless-done, andThen-done, andThen-assoc, stays, goes}
+use Rattle.words.proofs.AnswerLaws.{Numbered, Between, Other, unless-numbered, andThen-numbered, numbered-as, below}
 use Rattle.words.proofs.ShapeLaws.{inside-none}
 use Rattle.words.proofs.WordListLaws.{Listed, list-in, list-numbered, list-other}
 use Rattle.weights.specs.Description.{WeightsOf}

@@ -91,7 +91,7 @@ module _ (n k : ℕ) (reading : Reading) where
           rw (take-all a rows r)
           (same-output rows (take b words) rows words c (many-words rows (take b words) (omega arith) ∙ e) (many-words rows words (omega arith) ∙ e))
 
-  -- and lists with room for so many are loaded with what the sheet's own are printed for
+  -- and the words loaded into lists with room for so many are printed for as all those of the sheet
   pub cut-loaded : {s : List ℕ} {at count : ℕ} {before : List ℕ} {r : ℕ} {after : List ℕ} {from many : ℕ} {old : List ℕ} {m : ℕ} {new : List ℕ}
       → Loaded s at count before r after → Loaded s from many old m new → maxRows < length before → maxWords < length old
       → batchOutput n k (take r after) reading (take m new) ≡ batchOutput n k (wordsAt s at count) reading (wordsAt s from many)

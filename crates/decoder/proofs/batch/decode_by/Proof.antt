@@ -87,7 +87,8 @@ returns-2 c =
     let a = s .args in
     let f = w .before .before .fill-leaders .ensures in
     let no = c .before .if1 .taken in (
-      decode-refused (batch s) (lent s) (wide (passed w .before .before)) _ _ (u .0) (u .0 ∙ sym (ends w _ (work-short (a .n) (a .k) (a .rows .now) (accepted (passed w)) f no))) _
+      decode-refused (batch s) (lent s) (wide (passed w .before .before)) _ _ (u .0)
+          (u .0 ∙ sym (ends w _ (work-short (a .n) (a .k) (a .rows .now) (accepted (passed w)) f no))) _
           (ap (λ (l : List ℕ). record { codewords = s .args .out .now; counts = s .args .counts .now; work = l })
           (list-kept f no)),
       λ _. u .1 ∙ no-dmin _ _ _ (u .0),
