@@ -358,6 +358,7 @@ static void run_ours(void) { ours.length = relay_run(in.sheet, in.sheet_len, our
 static void run_plain(void) { theirs.length = plain_run(in.sheet, in.sheet_len, theirs.out, sizeof theirs.out); }
 
 #define TABLES {.blocks = true, .loops = true, .tables = true}
+#define ALIKE {.blocks = true, .counts = true, .loops = true}
 
 #define DESCRIBE_CASE(name, prepare)                                                                                              \
     {"Describe", name, "Gray walk", prepare, describe_ours, describe_plain, {0}, 1, true, false, false},                          \
@@ -401,6 +402,7 @@ static void run_plain(void) { theirs.length = plain_run(in.sheet, in.sheet_len, 
 #define SHEET_CASE(name, prepare)                                                                                                 \
     {"Sheets of 512 words", name, "plain", prepare, run_ours, run_plain, {0}, 1, true, false, false},                             \
     {"Sheets of 512 words", name, "quick", prepare, run_ours, run_plain, {.blocks = true, .loops = true}, 1, true, false, false}, \
+    {"Sheets of 512 words", name, "the library's methods", prepare, run_ours, run_plain, ALIKE, 1, true, false, false},            \
     {"Sheets of 512 words", name, "quick, tables", prepare, run_ours, run_plain, TABLES, 1, true, false, false}
 
 const Case cases[] = {

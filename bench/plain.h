@@ -25,6 +25,7 @@ static inline unsigned ones(uint32_t x)
 /* How the plain side works; what is false is done in the plainest way. */
 typedef struct {
     bool blocks; /* codewords are walked in blocks, not in Gray order */
+    bool counts; /* also where the minimum distance alone is asked for, weights are counted and the lightest codeword is kept */
     bool loops;  /* the leaders' last two ones are placed in loops, not by recursion */
     bool tables; /* syndromes by tables of eight places, not by a parity for each check row */
     bool places; /* interleaved bits place by place, not word by word */

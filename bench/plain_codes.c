@@ -297,6 +297,16 @@ static void decode_by_tables(const uint32_t columns[MAX_PLACES], const uint32_t 
         answer(a, i, words[i], leader[table_syndrome(&tables, words[i])]);
 }
 
+/* The minimum distance. */
+static uint32_t distance(uint32_t k, const uint32_t *rows)
+{
+    uint32_t counts[33] = {0}, d, lightest;
+    if (!ways.counts)
+        return ways.blocks ? block_distance(k, rows) : gray_distance(k, rows);
+    block_walk(k, rows, counts, &d, &lightest);
+    return d;
+}
+
 uint32_t plain_decode(uint32_t n, uint32_t k, const uint32_t *rows, size_t rows_len, bool within, uint32_t radius,
                       const uint32_t *words, size_t m, uint32_t *out, size_t out_len, uint8_t *counts, size_t counts_len,
                       uint32_t *work, size_t work_len, size_t *value, bool measured, uint32_t *d)
@@ -309,7 +319,7 @@ uint32_t plain_decode(uint32_t n, uint32_t k, const uint32_t *rows, size_t rows_
     if (number)
         return number;
     if (within || measured)
-        *d = ways.blocks ? block_distance(k, rows) : gray_distance(k, rows);
+        *d = distance(k, rows);
     if (within && (*d - 1) / 2 < radius)
         return refuse(value, 5, 0);
     if ((number = lists(words, m, n, out_len < counts_len ? out_len : counts_len, value)))

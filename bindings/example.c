@@ -1,5 +1,5 @@
 /* A (6,3) code: what it is, its coset leaders, three messages sent, damaged, decoded and read back; three words of a (7,4) code
- * sent interleaved, with a burst; then the two fixed codes and a code sheet.
+ * sent interleaved, with a burst; a (32,20) code, the longest; then the two fixed codes and a code sheet.
  * Built and run by bench/run, which compares what it prints with example.out. */
 #include "relaymarten.h"
 #include <inttypes.h>
@@ -105,6 +105,25 @@ static void interleaved(void)
     putchar('\n');
 }
 
+/* Rows of a BCH code, and one of 32 ones: at 32 places every number is a word. */
+static void longest(void)
+{
+    uint32_t matrix[RELAY_MAX_ROWS], received = 0x7FFFFFFF, decoded, message;
+    static uint32_t work[RELAY_MAX_LEADERS];
+    uint8_t count;
+    size_t value;
+    for (int i = 0; i < 19; i++)
+        matrix[i] = 0x769u << i;
+    matrix[19] = 0xFFFFFFFF;
+    if (relay_decode(32, 20, matrix, 20, 1, 2, &received, 1, &decoded, 1, &count, 1, work, RELAY_MAX_LEADERS, &value) != RELAY_DONE
+        || relay_message(32, 20, matrix, 20, &decoded, 1, &message, 1, &value) != RELAY_DONE)
+        return;
+    print_word(32, received);
+    printf(" gives ");
+    print_word(32, decoded);
+    printf(" %d, message %05" PRIX32 "\n", count, message);
+}
+
 static void fixed_codes(void)
 {
     uint32_t word, corrected;
@@ -145,6 +164,7 @@ int main(void)
     leaders();
     send();
     interleaved();
+    longest();
     fixed_codes();
     sheet();
     return 0;

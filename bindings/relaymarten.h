@@ -55,7 +55,8 @@ enum {
 /* Numbers. A call that may refuse returns 0, or the number of the first cause that refuses it, and writes at *value the value
  * beside it: the first such row or word, from 0, where the cause is about one, else 0. A call states its causes; they are tested
  * in rising order, but 14 and 15 before all others, and 16 and 17 after 5. A refused call on lists leaves every list as it was.
- * Later versions may have more numbers; 11 stays unused. docs/REFUSALS.md says of each what to do. */
+ * At n = 32 every number is a word: there is no 3 then, and 7 only for messages. Later versions may have more numbers; 11 stays
+ * unused. docs/REFUSALS.md says of each what to do. */
 enum {
     RELAY_DONE = 0,
     RELAY_OUT_OF_RANGE = 1,     /* n, k or n - k is out of range */
@@ -118,9 +119,10 @@ uint32_t relay_message(uint32_t n, uint32_t k, const uint32_t *rows, size_t rows
  * Written: slot i of `out` becomes the codeword of word i and slot i of `counts` its distance; a far word leaves the received
  * word, which is no answer, and RELAY_FAR. The first 2^(n - k) entries of `work` become the coset leaders by syndrome. Later
  * slots keep their values.
- * Time: most of it goes into the leaders, which are built in each call, and depends on the matrix; more words cost little. 512
- * words took 3 us with a (7,4) code, 45 to 110 us with random (28,16) rows, and 0.11 s with (28,16) rows that leave twelve places
- * 0 in every codeword, the slowest found (AMD EPYC, 2.6 GHz).
+ * Time: most of it goes into the leaders, which are built in each call, and depends on the matrix; within a radius all 2^k
+ * codewords are walked besides; more words cost little. 512 words took 3 us with a (7,4) code, 20 to 60 us with random (28,16) or
+ * (32,20) rows, within a radius 0.08 to 0.15 ms and 0.9 to 1.5 ms, and 0.55 s with (32,20) rows that leave twelve places 0 in every
+ * codeword, the slowest found (AMD EPYC, 2.6 GHz).
  * Stack: about 6 kB. */
 uint32_t relay_decode(uint32_t n, uint32_t k, const uint32_t *rows, size_t rows_len,
                       uint32_t within, uint32_t radius,

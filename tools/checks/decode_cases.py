@@ -12,6 +12,8 @@ SAMPLES = NO_ROWS + ['--rows', path('samples', 'rows.txt'), '--words', path('sam
 WITHIN = 'within radius 1, n 6 k 3 dmin 3 t 1\n'
 NEAREST = 'nearest, n 6 k 3 dmin 3 t 1\n'
 ONE_FAR = 'clean 0 mended 0 far 1 places 0\n'
+# (32,20), the longest words: nineteen rows, each the one before with its digits moved by a place, and 32 ones
+LONGEST = ['32', '20', ','.join(['0' * i + '10010110111' + '0' * (21 - i) for i in range(19)] + ['1' * 32])]
 
 
 def as_text():
@@ -27,6 +29,9 @@ def as_text():
              'a 110110 1\na 001110 1\n# words 2 clean 0 mended 2 guess 0 far 0 places 2; ' + WITHIN),
             ('300 words', CODE + ['-r', '1'], b'111110\n' * 299 + b'110001\n', 3, ''.join('%d 110110 1\n' % i for i in range(299))
              + '299 ------ far\n# words 300 clean 0 mended 299 guess 0 far 1 places 299; ' + WITHIN),
+            ('32 places', LONGEST + ['-r', '2', '1' * 31 + '0', '111' + '0' * 29, '1' * 32], b'', 3,
+             '0 %s 1\n1 %s far\n2 %s 0\n' % ('1' * 32, '-' * 32, '1' * 32)
+             + '# words 3 clean 1 mended 1 guess 0 far 1 places 1; within radius 2, n 32 k 20 dmin 5 t 2\n'),
             ('no words', CODE + ['--no-words'], b'', 0, '# words 0 clean 0 mended 0 guess 0 far 0 places 0; ' + NEAREST)):
         g.same(case, run('decode', args, given), (status, wanted.encode(), b''))
     g.end()

@@ -193,7 +193,7 @@ pub fn describe(n: u32, k: u32, rows: &[u32]) -> Result<Description, Refusal> {
 /// Writes the coset leaders to the front of `list`, 2^(n - k) entries, and gives them with the check rows and the number of words
 /// tried. Causes 1 to 4 and 9. Later slots, and on a refusal all, keep their values.
 ///
-/// It takes from microseconds to about 0.2 seconds, by the matrix.
+/// It takes from microseconds to about a second, by the matrix.
 pub fn leaders<'a>(n: u32, k: u32, rows: &[u32], list: &'a mut [u32]) -> Result<Leaders<'a>, Refusal> {
     let (mut checks, mut tried) = ([0; MAX_CHECKS], 0);
     told(|value| unsafe {
@@ -221,7 +221,8 @@ pub fn message(n: u32, k: u32, rows: &[u32], words: &[u32], out: &mut [u32]) -> 
 /// Decodes received words into the lent lists, and gives the outcomes over them. Causes 1 to 4, 5 within a radius, and 6 to 9.
 /// Later slots, and on a refusal all, keep their values.
 ///
-/// The leaders are built in each call, which takes from microseconds to about 0.2 seconds, by the matrix; more words cost little.
+/// The leaders are built in each call, which takes from microseconds to about a second, by the matrix; within a radius all 2^k codewords
+/// are walked besides; more words cost little.
 pub fn decode<'a>(n: u32, k: u32, rows: &[u32], reading: Reading, words: &[u32], lent: Lent<'a>) -> Result<Decoded<'a>, Refusal> {
     let (within, radius) = match reading {
         Reading::Nearest => (0, 0),
