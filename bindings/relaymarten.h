@@ -121,7 +121,7 @@ uint32_t relay_message(uint32_t n, uint32_t k, const uint32_t *rows, size_t rows
  * slots keep their values.
  * Time: most of it goes into the leaders, which are built in each call, and depends on the matrix; within a radius all 2^k
  * codewords are walked besides; more words cost little. 512 words took 3 us with a (7,4) code, 20 to 60 us with random (28,16) or
- * (32,20) rows, within a radius 0.08 to 0.15 ms and 0.9 to 1.5 ms, and 0.55 s with (32,20) rows that leave twelve places 0 in every
+ * (32,20) rows, within a radius 0.08 to 0.15 ms and 0.9 to 1.5 ms, and 0.6 s with (32,20) rows that leave twelve places 0 in every
  * codeword, the slowest found (AMD EPYC, 2.6 GHz).
  * Stack: about 6 kB. */
 uint32_t relay_decode(uint32_t n, uint32_t k, const uint32_t *rows, size_t rows_len,
