@@ -15,8 +15,10 @@ GOALS = [("(72,64)", "(72,64) decode", 1.25), ("Widths", "word of 16 or 32 data 
          ("Leaders", "leaders", 1.15), ("Sheets of 512 words", "sheet", 1.5)]
 # Of a bit that is interleaved or deinterleaved; and the decode after it, beside these, by a decode of the same words.
 BIT_INSTRUCTIONS, SAME_WORDS, SAME_WORDS_GOAL = 8, "relay_decode of the words", 1.1
-# The largest code: Describe by sixteen times that of a code with four rows fewer, and a sheet by C with the same methods.
-LARGEST, FOUR_ROWS_FEWER, WALK_GOAL, SAME_METHODS, LARGEST_SHEET_GOAL = "dense (32,20)", "dense (28,16)", 1.05, "the library's methods", 1.3
+# The largest code: Describe by sixteen times that of a code with four rows fewer, and a sheet by C with the same methods, whether these count
+# the weights where the minimum distance alone is asked for or not.
+LARGEST, FOUR_ROWS_FEWER, WALK_GOAL = "dense (32,20)", "dense (28,16)", 1.05
+SAME_METHODS, LARGEST_SHEET_GOAL = ("quick", "the library's methods"), 1.3
 
 Case = collections.namedtuple("Case", "index section name plain words matters less timed")
 # library: (instructions, nanoseconds); ratios: by build, of the same; no instructions where the case is timed alone
@@ -123,9 +125,9 @@ def largest_rows(described, sheets):
     walked = [(figures[LARGEST] / (16 * figures[FOUR_ROWS_FEWER]), LARGEST)]
     yield goal_row("describe by sixteen times that of four rows fewer", WALK_GOAL, "", "", walked)
     for r in sheets:
-        if (r.case.name, r.case.plain) == (LARGEST, SAME_METHODS):
+        if r.case.name == LARGEST and r.case.plain in SAME_METHODS:
             for build, (ratio, _) in r.ratios.items():
-                yield goal_row("sheet of the largest code", LARGEST_SHEET_GOAL, SAME_METHODS, build, [(ratio, LARGEST)])
+                yield goal_row("sheet of the largest code", LARGEST_SHEET_GOAL, r.case.plain, build, [(ratio, LARGEST)])
 
 
 def machine():

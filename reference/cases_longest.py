@@ -28,6 +28,7 @@ def longest_matrices():
     every(32, 20, LARGEST[:19], (2, 0))
     every(32, 20, LARGEST[:18] + (MAX, MAX), (4, 19))
     every(32, 20, (MAX,) * 20, (4, 1))
+    every(32, 20, tuple(MAX - 2**i for i in range(20)))
     assert matrix_cause(32, 20, tuple(MAX - 2**i for i in range(20))) is None
 
 

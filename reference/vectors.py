@@ -15,7 +15,8 @@ from records import LINES, RECORDS, written
 for group in (word_cases, hamming, large, ranges, matrices, batches, mixed_batches, published_weights, no_row, one_code, duals, worked,
               lent_lists, decode_refusals, mixed_decode, small_codes, published_codes, by_chance, words_tried, zero_places, leader_refusals,
               leaders_by_chance, worked_bits, interleaving_causes, mixed_interleaving, depths, interleaved_bursts, interleaved_by_chance,
-              longest_matrices, longest_words, longest_interleaved, golay, golay_patterns, hsiao, hsiao_changes, widths, width_words, width_changes):
+              longest_matrices, longest_words, longest_interleaved, golay, golay_patterns, hsiao, hsiao_changes, widths, width_words,
+              width_changes):
     group()
 written('\n' + '-' * 14 + '\n', 0)
 

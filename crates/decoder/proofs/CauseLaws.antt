@@ -13,16 +13,16 @@ use Rattle.words.specs.Limits.{maxWords, width}
 use Rattle.words.specs.Refusal.{numberOf, andThen, ifDone}
 use Rattle.words.specs.Shape.{firstOutside}
 use Rattle.words.specs.Accepted.{matrixAnswer, Accepted}
-use Rattle.words.proofs.AcceptedLaws.{accepted-in, matrix-numbered, matrix-other}
+use Rattle.words.proofs.AcceptedLaws.{accepted-in, matrix-numbered, matrix-passes}
 use Rattle.words.specs.Lists.{roomAnswer, listAnswer}
 use Rattle.words.specs.declared.answer.Refusal.{Refusal}
 use Rattle.words.specs.declared.answer.Refusal.the-variants.{RadiusTooLarge, ShortOutput, ShortWork}
 use Rattle.words.specs.declared.answer.Answer.{Answer}
 use Rattle.words.specs.declared.answer.Answer.the-variants.{Done, Refused}
 use Rattle.words.proofs.AnswerLaws.{unless-done, andThen-done, andThen-assoc, stays, goes}
-use Rattle.words.proofs.AnswerLaws.{Numbered, Between, Other, unless-numbered, andThen-numbered, numbered-as, below}
+use Rattle.words.proofs.AnswerLaws.{Numbered, Between, Neither, neither, unless-numbered, andThen-numbered, numbered-as}
 use Rattle.words.proofs.ShapeLaws.{inside-none}
-use Rattle.words.proofs.WordListLaws.{Listed, list-in, list-numbered, list-other}
+use Rattle.words.proofs.WordListLaws.{Listed, list-in, list-numbered, list-passes}
 use Rattle.weights.specs.Description.{WeightsOf}
 use Rattle.weights.specs.declared.weights.Weights.{Weights}
 use Rattle.decoder.specs.Inner.Known.{asked, KnownOf}
@@ -170,21 +170,12 @@ pub refused-number : (n k : ℕ) (rows : List ℕ) (reading : Reading) (words : 
 refused-number n k rows reading words slots bytes room c e = rw e at (decode-numbered n k rows reading words slots bytes room)
 
 -- 02, No. 7: at 32 places neither 3 nor 7
-module _ (n k : ℕ) (rows : List ℕ) (reading : Reading) (words : List ℕ) (slots bytes room : ℕ) (e : n ≡ width) where
-  pub row-other : Inside width rows → Numbered (Other 3) (decodeAnswer n k rows reading words slots bytes room)
-  unfolding decodeAnswer codeAnswer listsAnswer
-  row-other f =
-      andThen-numbered (Other 3) (codeAnswer n k rows reading) _
-      (andThen-numbered (Other 3) (matrixAnswer n k rows) _ (matrix-other n k rows e f)
-      (radius-numbered (Other 3) reading (dmin rows) (λ z. omega (arith, z))))
-      (andThen-numbered (Other 3) (listAnswer words n (min slots bytes)) _
-      (list-numbered (Other 3) words n (min slots bytes) (λ z. omega (arith, z)) (λ z. omega (arith, z)) (λ z. omega (arith, z)))
-      (work-numbered (Other 3) room (2 ^ (n - k)) (λ z. omega (arith, z))))
-
-  pub word-other : Inside width words → Numbered (Other 7) (decodeAnswer n k rows reading words slots bytes room)
-  unfolding decodeAnswer listsAnswer
-  word-other f =
-      andThen-numbered (Other 7) (codeAnswer n k rows reading) _
-      (below 7 1 5 (codeAnswer n k rows reading) (omega arith) (code-numbered n k rows reading))
-      (andThen-numbered (Other 7) (listAnswer words n (min slots bytes)) _ (list-other words n (min slots bytes) e f)
-      (work-numbered (Other 7) room (2 ^ (n - k)) (λ z. omega (arith, z))))
+pub decode-passes : (n k : ℕ) (rows : List ℕ) (reading : Reading) (words : List ℕ) (slots bytes room : ℕ) → n ≡ width → Inside width rows
+    → Inside width words → Numbered (Neither 3 7) (decodeAnswer n k rows reading words slots bytes room)
+unfolding decodeAnswer codeAnswer listsAnswer
+decode-passes n k rows reading words slots bytes room e f g =
+    andThen-numbered (Neither 3 7) (codeAnswer n k rows reading) _
+    (andThen-numbered (Neither 3 7) (matrixAnswer n k rows) _ (matrix-passes n k rows e f)
+    (radius-numbered (Neither 3 7) reading (dmin rows) (neither 3 7 5 refl refl)))
+    (andThen-numbered (Neither 3 7) (listAnswer words n (min slots bytes)) _ (list-passes words n (min slots bytes) e g)
+    (work-numbered (Neither 3 7) room (2 ^ (n - k)) (neither 3 7 9 refl refl)))

@@ -26,7 +26,7 @@ use Rattle.outcomes.proofs.DemandLaws.{nearest-rule, radius-rule, clean-rule}
 use Rattle.decoder.specs.Causes.{decodeAnswer}
 use Rattle.decoder.specs.Decoded.{Batch, Lent, Decoded}
 use Rattle.decoder.specs.Inner.SlotsBy.{wordBy, countBy}
-use Rattle.decoder.proofs.CauseLaws.{Passed, batch-in, refused-number, row-other, word-other, radius-in}
+use Rattle.decoder.proofs.CauseLaws.{Passed, batch-in, refused-number, decode-passes, radius-in}
 use Rattle.decoder.proofs.SlotLaws.{slot-at, words-are, counts-are}
 
 -- the answer to a batch
@@ -41,10 +41,7 @@ decode-refused B L (f, g) r c e b after s =
     record {
       answer = b;
       either = inl (c, e, low, high, s);
-      every-word = λ w. (
-        never 3 _ r b (row-other (B .n) (B .k) (B .rows) (B .reading) (B .words) _ _ _ w f),
-        never 7 _ r b (word-other (B .n) (B .k) (B .rows) (B .reading) (B .words) _ _ _ w g),
-      );
+      every-word = λ w. never 3 7 _ r b (decode-passes (B .n) (B .k) (B .rows) (B .reading) (B .words) _ _ _ w f g);
       codewords = ap (λ (l : Lent). l .codewords) s ∙ kept r c e _ (L .codewords);
       distances = ap (λ (l : Lent). l .counts) s ∙ kept r c e _ (L .counts);
       leaders = ap (λ (l : Lent). l .work) s ∙ kept r c e _ (L .work);

@@ -24,10 +24,10 @@ use Rattle.words.specs.Lists.{listAnswer}
 use Rattle.words.specs.declared.answer.Refusal.the-variants.{NoCodeword}
 use Rattle.words.specs.declared.answer.Answer.{Answer}
 use Rattle.words.specs.declared.answer.Answer.the-variants.{Done}
-use Rattle.words.proofs.WordListLaws.{list-in, list-numbered, list-other}
-use Rattle.words.proofs.AnswerLaws.{goes, Numbered, Other, unless-numbered, andThen-numbered, never, below}
+use Rattle.words.proofs.WordListLaws.{list-in, list-passes}
+use Rattle.words.proofs.AnswerLaws.{goes, Numbered, Neither, neither, unless-numbered, andThen-numbered, never}
 use Rattle.words.specs.Accepted.{matrixAnswer, Accepted}
-use Rattle.words.proofs.AcceptedLaws.{accepted-in, matrix-numbered, matrix-other}
+use Rattle.words.proofs.AcceptedLaws.{accepted-in, matrix-passes}
 use Rattle.words.proofs.CodeLaws.{one-is, back-is, codeword-syndrome}
 use Rattle.encoder.specs.Encoded.{encodeAnswer, Encoded}
 use Rattle.encoder.specs.MessagesRead.{other, messageAnswer, MessagesRead}
@@ -60,22 +60,14 @@ module _ (n k : ℕ) (rows : List ℕ) (A : Accepted n k rows) where
           trace-message rows (A .independent) (encode M w) w (message-trace 32 rows M
           (inside-wide n 32 (omega (arith, A .range .places)) rows (A .inside)) t w c)
 
--- at 32 places neither 3 nor 7 refuses a word that is read back
-module _ (n k : ℕ) (rows words : List ℕ) (slots : ℕ) (e : n ≡ width) where
-  row-other : Inside width rows → Numbered (Other 3) (messageAnswer n k rows words slots)
-  row-other f =
-      andThen-numbered (Other 3) (matrixAnswer n k rows) _ (matrix-other n k rows e f)
-      (andThen-numbered (Other 3) (listAnswer words n slots) _
-      (list-numbered (Other 3) words n slots (λ z. omega (arith, z)) (λ z. omega (arith, z)) (λ z. omega (arith, z)))
-      (unless-numbered (Other 3) (eqb (first (other rows words) (length words)) (length words)) (NoCodeword (first (other rows words) (length words)))
-      Done (λ z. omega (arith, z)) tt))
-
-  word-other : Inside width words → Numbered (Other 7) (messageAnswer n k rows words slots)
-  word-other f =
-      andThen-numbered (Other 7) (matrixAnswer n k rows) _ (below 7 1 4 (matrixAnswer n k rows) (omega arith) (matrix-numbered n k rows))
-      (andThen-numbered (Other 7) (listAnswer words n slots) _ (list-other words n slots e f)
-      (unless-numbered (Other 7) (eqb (first (other rows words) (length words)) (length words)) (NoCodeword (first (other rows words) (length words)))
-      Done (λ z. omega (arith, z)) tt))
+-- at 32 places Message is never refused under 3 or 7
+message-passes : (n k : ℕ) (rows words : List ℕ) (slots : ℕ) → n ≡ width → Inside width rows → Inside width words
+    → Numbered (Neither 3 7) (messageAnswer n k rows words slots)
+message-passes n k rows words slots e f g =
+    andThen-numbered (Neither 3 7) (matrixAnswer n k rows) _ (matrix-passes n k rows e f)
+    (andThen-numbered (Neither 3 7) (listAnswer words n slots) _ (list-passes words n slots e g)
+    (unless-numbered (Neither 3 7) (eqb (first (other rows words) (length words)) (length words)) (NoCodeword (first (other rows words) (length words)))
+    Done (neither 3 7 10 refl refl) tt))
 
 -- what Encode and Message promise, from the answer and the slots
 module _ (n k : ℕ) (rows words before : List ℕ) (r : Answer) (after : List ℕ) where
@@ -88,7 +80,7 @@ module _ (n k : ℕ) (rows words before : List ℕ) (r : Answer) (after : List �
   messages-read (f, g) a s = record {
     answer = a;
     slots = s;
-    every-word = λ e. (never 3 _ r a (row-other n k rows words (length before) e f), never 7 _ r a (word-other n k rows words (length before) e g));
+    every-word = λ e. never 3 7 _ r a (message-passes n k rows words (length before) e f g);
     one = λ A w c. one-is n k rows A w c;
     back = λ A u h. back-is n k rows A u h;
   }

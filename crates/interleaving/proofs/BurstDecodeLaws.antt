@@ -19,7 +19,7 @@ use Rattle.words.specs.declared.answer.Refusal.{Refusal}
 use Rattle.words.specs.declared.answer.Refusal.the-variants.{OutOfRange, NoDepth, NoBits}
 use Rattle.words.specs.declared.answer.Answer.{Answer}
 use Rattle.words.specs.declared.answer.Answer.the-variants.{Done, Refused}
-use Rattle.words.proofs.AnswerLaws.{refused-done, stays, goes, Numbered, unless-numbered, andThen-numbered, numbered-as, Between}
+use Rattle.words.proofs.AnswerLaws.{refused-done, stays, goes, Numbered, unless-numbered, andThen-numbered, numbered-as, Between, Neither, neither}
 use Rattle.words.proofs.AcceptedLaws.{shape-refused}
 use Rattle.outcomes.specs.Outcome.{wordOf}
 use Rattle.outcomes.specs.declared.ending.Reading.{Reading}
@@ -56,40 +56,33 @@ module _ (n k : ℕ) (rows : List ℕ) (ρ L : ℕ) (bits : List ℕ) (slots byt
 
   -- ---- 6 and 7 never arise
 
-  abbrev Other : ℕ → Type 0
-  Other m = (m ≢ 6) × (m ≢ 7)
-
-  bits-numbered : Numbered Other (bitsAnswer n L bits)
+  bits-numbered : Numbered (Neither 6 7) (bitsAnswer n L bits)
   unfolding bitsAnswer lengthAnswer
   bits-numbered =
-      andThen-numbered Other (lengthAnswer n L (length bits)) _
-      (unless-numbered Other (leb 1 L) NoDepth _ other16
-      (unless-numbered Other (leb L maxDepth) NoDepth _ other16 (unless-numbered Other (eqb (length bits) (L * n)) NoBits Done other17 tt)))
-      (unless-numbered Other (onlyBits bits) NoBits Done other17 tt)
-    where
-      other16 : Other 16
-      other16 = (λ e. absurd (omega arith), λ e. absurd (omega arith))
-
-      other17 : Other 17
-      other17 = (λ e. absurd (omega arith), λ e. absurd (omega arith))
+      andThen-numbered (Neither 6 7) (lengthAnswer n L (length bits)) _
+      (unless-numbered (Neither 6 7) (leb 1 L) NoDepth _ (neither 6 7 16 refl refl)
+      (unless-numbered (Neither 6 7) (leb L maxDepth) NoDepth _ (neither 6 7 16 refl refl)
+      (unless-numbered (Neither 6 7) (eqb (length bits) (L * n)) NoBits Done (neither 6 7 17 refl refl) tt)))
+      (unless-numbered (Neither 6 7) (onlyBits bits) NoBits Done (neither 6 7 17 refl refl) tt)
 
   -- the words sorted back are few and have n places
-  lists-numbered : bitsAnswer n L bits ≡ Done → Numbered Other (listsAnswer n k (sortedWords n L bits) slots bytes room)
+  lists-numbered : bitsAnswer n L bits ≡ Done → Numbered (Neither 6 7) (listsAnswer n k (sortedWords n L bits) slots bytes room)
   lists-numbered e =
       let (F, f) = bits-in n L bits e in
-      numbered-as Other (Between 8 9) (λ m h. (λ z. absurd (omega (arith, h)), λ z. absurd (omega (arith, h))))
+      numbered-as (Neither 6 7) (Between 8 9) (λ m h. (λ z. absurd (omega (arith, h)), λ z. absurd (omega (arith, h))))
       (listsAnswer n k (sortedWords n L bits) slots bytes room)
       (lists-last n k (sortedWords n L bits) slots bytes room (omega (arith, F .small, sorted-long n L bits)) (sorted-inside n L bits f))
 
-  numbered : Numbered Other answer
+  numbered : Numbered (Neither 6 7) answer
   unfolding interleavedAnswer
   numbered =
-      andThen-numbered Other (codeAnswer n k rows (Within ρ)) _
-      (numbered-as Other (Between 1 5) (λ m h. (λ z. absurd (omega (arith, h)), λ z. absurd (omega (arith, h)))) (codeAnswer n k rows (Within ρ))
+      andThen-numbered (Neither 6 7) (codeAnswer n k rows (Within ρ)) _
+      (numbered-as (Neither 6 7) (Between 1 5) (λ m h. (λ z. absurd (omega (arith, h)), λ z. absurd (omega (arith, h)))) (codeAnswer n k rows (Within ρ))
       (code-numbered n k rows (Within ρ)))
       (go (bitsAnswer n L bits) refl bits-numbered)
     where
-      go : (b : Answer) → bitsAnswer n L bits ≡ b → Numbered Other b → Numbered Other (andThen b (listsAnswer n k (sortedWords n L bits) slots bytes room))
+      go : (b : Answer) → bitsAnswer n L bits ≡ b → Numbered (Neither 6 7) b
+          → Numbered (Neither 6 7) (andThen b (listsAnswer n k (sortedWords n L bits) slots bytes room))
       go Done e h = lists-numbered e
       go (Refused c) e h = h
 

@@ -14,8 +14,9 @@ use Rattle.coding.proofs.SearchLaws.{first-le}
 use Rattle.words.specs.Limits.{width, inRange}
 use Rattle.words.specs.Refusal.{unless, andThen}
 use Rattle.words.specs.Shape.{firstOutside, shapeAnswer}
-use Rattle.words.proofs.AnswerLaws.{first-refused, first-passes, first-done, andThen-done, Numbered, Between, Other, unless-numbered, andThen-numbered}
-use Rattle.words.proofs.ShapeLaws.{shape-in, in-shape, shape-other}
+use Rattle.words.proofs.AnswerLaws.{first-refused, first-passes, first-done, andThen-done}
+use Rattle.words.proofs.AnswerLaws.{Numbered, Between, Neither, neither, unless-numbered, andThen-numbered}
+use Rattle.words.proofs.ShapeLaws.{shape-in, in-shape, shape-passes}
 use Rattle.words.specs.Accepted.{matrixAnswer, Accepted}
 use Rattle.words.specs.declared.answer.Refusal.{Refusal}
 use Rattle.words.specs.declared.answer.Refusal.the-variants.{OutOfRange, RowCount, RowOutside, Dependent}
@@ -89,8 +90,8 @@ matrix-numbered n k rows =
     (unless-numbered (Between 1 4) (eqb (firstDependent rows) (length rows)) (Dependent (firstDependent rows)) Done (omega arith, omega arith) tt)
 
 -- 02, No. 7: at 32 places never 3
-pub matrix-other : (n k : ℕ) (rows : List ℕ) → n ≡ width → Inside width rows → Numbered (Other 3) (matrixAnswer n k rows)
+pub matrix-passes : (n k : ℕ) (rows : List ℕ) → n ≡ width → Inside width rows → Numbered (Neither 3 7) (matrixAnswer n k rows)
 unfolding matrixAnswer
-matrix-other n k rows e f =
-    rw e (andThen-numbered (Other 3) (shapeAnswer width k rows) _ (shape-other k rows f)
-    (unless-numbered (Other 3) (eqb (firstDependent rows) (length rows)) (Dependent (firstDependent rows)) Done (λ z. omega (arith, z)) tt))
+matrix-passes n k rows e f =
+    rw e (andThen-numbered (Neither 3 7) (shapeAnswer width k rows) _ (shape-passes k rows f)
+    (unless-numbered (Neither 3 7) (eqb (firstDependent rows) (length rows)) (Dependent (firstDependent rows)) Done (neither 3 7 4 refl refl) tt))

@@ -3,11 +3,11 @@ use mathlib.Core.Path.{_≡_, refl, ap, sym, _∙_}
 use mathlib.Core.Logic.{_≢_}
 use mathlib.Core.List.{List, _++_, map}
 use mathlib.Core.Bool.{Bool, true, false}
-use Prim.Native.Nat.{ℕ, _+_, _≤_, _<_}
+use Prim.Native.Nat.{ℕ, _+_, _≤_}
 use native.Mathlib.Omega.{arith}
 use lib.Dec.{eqb}
 use lib.ListN.{length, drop, length-map}
-use borrow.Author.Tests.{eqb-true, eq-eqb, ne-eqb}
+use borrow.Author.Tests.{eqb-true, eqb-false, eq-eqb, ne-eqb}
 use Rattle.coding.specs.Lists.{first}
 use Rattle.words.specs.Refusal.{numberOf, unless, refuseFirst, andThen, Never, onDone}
 use Rattle.words.specs.declared.answer.Refusal.{Refusal}
@@ -78,19 +78,19 @@ module _ (P : ℕ → Type 0) where
   numbered-as Q f Done h = tt
   numbered-as Q f (Refused c) h = f (numberOf c) h
 
--- an answer of which no cause has this number
-abbrev pub Other : ℕ → ℕ → Type 0
-Other m x = x ≢ m
+-- or to be neither of two
+abbrev pub Neither : ℕ → ℕ → ℕ → Type 0
+Neither a b m = (m ≢ a) × (m ≢ b)
 
-pub never : (m : ℕ) (a r : Answer) → r ≡ a → Numbered (Other m) a → Never m r
-never m a r e h c d = rw (sym e ∙ d) at h
+pub neither : (a b m : ℕ) → eqb m a ≡ false → eqb m b ≡ false → Neither a b m
+neither a b m p q = (eqb-false m a p, eqb-false m b q)
 
--- such as a success, and one whose numbers are all smaller
+-- then the answer is no refusal under one of them
+pub never : (a b : ℕ) (answer r : Answer) → r ≡ answer → Numbered (Neither a b) answer → Never a r × Never b r
+never a b answer r e h = (λ c d. (rw (sym e ∙ d) at h) .0, λ c d. (rw (sym e ∙ d) at h) .1)
+
 pub never-done : (m : ℕ) → Never m Done
 never-done m c e = refused-done (sym e)
-
-pub below : (m a b : ℕ) (r : Answer) → b < m → Numbered (Between a b) r → Numbered (Other m) r
-below m a b r l h = numbered-as (Other m) (Between a b) (λ x i e. omega (arith, i, e)) r h
 
 -- ---- what an answer leaves in a lent list
 

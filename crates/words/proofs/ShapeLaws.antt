@@ -13,7 +13,7 @@ use Rattle.coding.proofs.SearchLaws.{first-is, first-before}
 use Rattle.words.specs.Limits.{maxPlaces, maxRows, maxChecks, width, InRange, inRange}
 use Rattle.words.specs.Refusal.{refuseFirst}
 use Rattle.words.specs.Shape.{outside, firstOutside, shapeAnswer}
-use Rattle.words.proofs.AnswerLaws.{unless-done, first-passes, first-done, Numbered, Other, unless-numbered}
+use Rattle.words.proofs.AnswerLaws.{unless-done, first-passes, first-done, Numbered, Neither, neither, unless-numbered}
 use Rattle.words.specs.declared.answer.Refusal.{Refusal}
 use Rattle.words.specs.declared.answer.Refusal.the-variants.{OutOfRange, RowCount, RowOutside}
 use Rattle.words.specs.declared.answer.Answer.the-variants.{Done}
@@ -98,9 +98,9 @@ every-word words f = inside-none width words f
 pub every-passes : (c : ℕ → Refusal) (words : List ℕ) → Inside width words → refuseFirst (outside width words) (length words) c Done ≡ Done
 every-passes c words f = sym (first-passes (outside width words) (length words) c Done (firstOutside width words) refl (every-word words f))
 
--- as cause 3 does
-pub shape-other : (k : ℕ) (rows : List ℕ) → Inside width rows → Numbered (Other 3) (shapeAnswer width k rows)
+-- as cause 3 does: it never arises, and 7 is none of these causes
+pub shape-passes : (k : ℕ) (rows : List ℕ) → Inside width rows → Numbered (Neither 3 7) (shapeAnswer width k rows)
 unfolding shapeAnswer
-shape-other k rows f =
-    unless-numbered (Other 3) (inRange width k) OutOfRange _ (λ e. omega (arith, e))
-    (unless-numbered (Other 3) (eqb (length rows) k) RowCount _ (λ e. omega (arith, e)) (rw (every-passes RowOutside rows f) tt))
+shape-passes k rows f =
+    unless-numbered (Neither 3 7) (inRange width k) OutOfRange _ (neither 3 7 1 refl refl)
+    (unless-numbered (Neither 3 7) (eqb (length rows) k) RowCount _ (neither 3 7 2 refl refl) (rw (every-passes RowOutside rows f) tt))

@@ -1,8 +1,7 @@
 -- Laws of the causes 6 to 8. Assumes nothing.
-use mathlib.Core.Path.{_≡_}
+use mathlib.Core.Path.{_≡_, refl}
 use mathlib.Core.List.{List}
 use Prim.Native.Nat.{ℕ, _≤_}
-use native.Mathlib.Omega.{arith}
 use lib.Dec.{eqb, leb}
 use lib.ListN.{length}
 use borrow.Author.Tests.{leb-true}
@@ -12,7 +11,7 @@ use Rattle.words.specs.Shape.{outside, firstOutside}
 use Rattle.words.specs.Lists.{manyAnswer, insideAnswer, roomAnswer, listAnswer}
 use Rattle.words.specs.declared.answer.Refusal.the-variants.{TooManyWords, WordOutside, ShortOutput}
 use Rattle.words.specs.declared.answer.Answer.the-variants.{Done}
-use Rattle.words.proofs.AnswerLaws.{unless-done, first-done, andThen-done, Numbered, Other, unless-numbered, andThen-numbered}
+use Rattle.words.proofs.AnswerLaws.{unless-done, first-done, andThen-done, Numbered, Neither, neither, unless-numbered, andThen-numbered}
 use Rattle.words.proofs.ShapeLaws.{outside-none, every-passes}
 
 -- what 7 and 8 leave known when they pass
@@ -54,6 +53,6 @@ module _ (P : ℕ → Type 0) (words : List ℕ) (places slots : ℕ) (six : P 6
       around (unless-numbered P (eqb (firstOutside places words) (length words)) (WordOutside (firstOutside places words)) Done seven tt)
 
 -- 02, No. 7: at 32 places never 7
-pub list-other : (words : List ℕ) (places slots : ℕ) → places ≡ width → Inside width words → Numbered (Other 7) (listAnswer words places slots)
-list-other words places slots e f =
-    around (Other 7) words places slots (λ z. omega (arith, z)) (λ z. omega (arith, z)) (rw (e, every-passes WordOutside words f) tt)
+pub list-passes : (words : List ℕ) (places slots : ℕ) → places ≡ width → Inside width words → Numbered (Neither 3 7) (listAnswer words places slots)
+list-passes words places slots e f =
+    around (Neither 3 7) words places slots (neither 3 7 6 refl refl) (neither 3 7 8 refl refl) (rw (e, every-passes WordOutside words f) tt)
