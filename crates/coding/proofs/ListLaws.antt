@@ -40,3 +40,8 @@ pub tabulate-same : (f g : ℕ → ℕ) (m : ℕ) → ((i : ℕ) → i < m → f
 tabulate-same f g zero h = refl
 tabulate-same f g (suc m) h =
     ap₂ _∷_ (h zero (zero-lt-suc m)) (tabulate-same (λ i. f (suc i)) (λ i. g (suc i)) m (λ i l. h (suc i) (suc-le-suc l)))
+
+-- a list tabulated by the entries of another
+pub tabulate-map : (f g : ℕ → ℕ) (l : List ℕ) → ((i : ℕ) → i < length l → f i ≡ g (getD l i 0)) → tabulate f (length l) ≡ map g l
+tabulate-map f g [] h = refl
+tabulate-map f g (x ∷ l) h = ap₂ _∷_ (h 0 (omega arith)) (tabulate-map (λ i. f (suc i)) g l (λ i k. h (suc i) (suc-le-suc k)))

@@ -2,15 +2,16 @@
 -- Assumes nothing.
 use mathlib.Core.Path.{_≡_, refl, sym, ap, ap₂, _∙_}
 use mathlib.Core.Logic.{_≢_}
-use mathlib.Core.List.{List, [], _∷_, _++_}
-use Prim.Native.Nat.{ℕ, zero, suc, _+_, _*_, _/_, _%_, _^_, _<_, _≤_, suc-le-suc}
-use native.Mathlib.Nat.{suc-ne-zero, suc-inj}
+use mathlib.Core.List.{List, [], _∷_, _++_, append-nil}
+use Prim.Native.Nat.{ℕ, zero, suc, _+_, _-_, _*_, _/_, _%_, _^_, _<_, _≤_, suc-le-suc}
+use native.Mathlib.Decide.{decLe}
+use native.Mathlib.Nat.{suc-ne-zero, suc-inj, mod-lt, one-mul}
 use native.Mathlib.Numerals.{add-one}
 use native.Mathlib.Omega.{arith}
-use lib.ListN.{length, getD, take, drop, drop-of-length-le}
-use lib.Seq.{drop-cons}
-use lib.Pow.{pow-pos, pow-lt}
-use lib.Bits.{xor-lt, xor-zero-r, xor-self, block-half, block-odd}
+use lib.ListN.{length, getD, take, drop, drop-of-length-le, length-take, List·getD-eq-default}
+use lib.Seq.{drop-cons, length-take-le, take-add}
+use lib.Pow.{pow-pos, pow-lt, split, mod-mod-pow}
+use lib.Bits.{xor-lt, xor-comm, xor-zero-r, xor-self, xor-shifted, block-half, block-odd}
 use Rattle.coding.specs.Word.{_⊕_, bit}
 use Rattle.coding.specs.Matrix.{sel, encode, Codeword, Inside}
 use Rattle.coding.proofs.WordLaws.{bit-half, bit-zeroth, bit-pow, bit-pow-other, half-lt, xor-assoc, xor-half, xor-digit, xor-four}
@@ -129,3 +130,50 @@ encode-split (r ∷ front) others h i k =
     ap₂ (λ (a b : ℕ). sel a r ⊕ encode (front ++ others) b) (block-odd h (length front) i) (block-half h (length front) i)
     ∙ ap (λ (x : ℕ). sel (i % 2) r ⊕ x) (encode-split front others h (i / 2) (half-lt (length front) k))
     ∙ sym (xor-assoc (sel (i % 2) r) (encode front (i / 2)) (encode others h))
+
+-- rows see the low places of a number, as many as they are
+low-places : (rs : List ℕ) (u : ℕ) → encode rs (u % 2 ^ length rs) ≡ encode rs u
+low-places rs u =
+    let k = length rs in
+    sym (xor-zero-r _) ∙ sym (encode-split rs [] (u / 2 ^ k) (u % 2 ^ k) (mod-lt u (pow-pos k))) ∙ ap₂ encode (append-nil rs) (split u k)
+
+pub encode-low : (rs : List ℕ) (m u : ℕ) → length rs ≤ m → encode rs (u % 2 ^ m) ≡ encode rs u
+encode-low rs m u h =
+    let k = length rs in
+    let e : m - k + k ≡ m = omega arith in
+    ap (λ (x : ℕ). encode rs (u % 2 ^ x)) (sym e) ∙ sym (low-places rs (u % 2 ^ (m - k + k))) ∙ ap (encode rs) (mod-mod-pow u (m - k) k) ∙ low-places rs u
+
+-- the first rows see the low places, the others the rest
+pub encode-append : (front others : List ℕ) (u : ℕ) → encode (front ++ others) u ≡ encode front u ⊕ encode others (u / 2 ^ length front)
+encode-append front others u =
+    let k = length front in
+    ap (encode (front ++ others)) (sym (split u k)) ∙ encode-split front others (u / 2 ^ k) (u % 2 ^ k) (mod-lt u (pow-pos k))
+    ∙ ap (λ (x : ℕ). x ⊕ encode others (u / 2 ^ k)) (low-places front u)
+
+-- the rows up to e, from those up to i and the group between, of which eight places of the message see all
+pub encode-group : (rs : List ℕ) (i e u : ℕ) → i ≤ e → e ≤ length rs → e ≤ i + 8
+    → encode (take e rs) u ≡ encode (take i rs) u ⊕ encode (take (e - i) (drop i rs)) (u / 2 ^ i % 256)
+encode-group rs i e u h k few =
+    let m : i + (e - i) ≡ e = omega arith in
+    let long : length (take i rs) ≡ i = length-take-le i rs (omega arith) in
+    let group = take (e - i) (drop i rs) in
+    let small : length group ≤ 8 = omega (arith, length-take (e - i) (drop i rs)) in
+    ap (λ (x : ℕ). encode (take x rs) u) (sym m) ∙ ap (λ (l : List ℕ). encode l u) (take-add i (e - i) rs)
+    ∙ encode-append (take i rs) group u ∙ ap (λ (x : ℕ). encode (take i rs) u ⊕ encode group (u / 2 ^ x)) long
+    ∙ ap (λ (x : ℕ). encode (take i rs) u ⊕ x) (sym (encode-low group 8 (u / 2 ^ i) small))
+
+-- the word with a one at place i selects row i, and none where there is no such row
+pub unit-row : (rs : List ℕ) (i : ℕ) → encode rs (2 ^ i) ≡ getD rs i 0
+unit-row rs i = go (decLe (suc i) (length rs))
+  where
+    go : Dec (i < length rs) → encode rs (2 ^ i) ≡ getD rs i 0
+    go (yes h) = row-message rs i h
+    go (no out) =
+        encode-none rs (2 ^ i) (λ j h. ap (λ (x : ℕ). sel x (getD rs j 0)) (bit-pow-other i j (omega arith)))
+        ∙ sym (List·getD-eq-default rs 0 (omega arith))
+
+-- a one at place i, above the places of j, adds row i
+pub encode-top : (rs : List ℕ) (i j : ℕ) → j < 2 ^ i → encode rs (2 ^ i + j) ≡ encode rs j ⊕ getD rs i 0
+encode-top rs i j h =
+    ap (encode rs) (sym (rw one-mul at (xor-shifted 1 i j h))) ∙ encode-xor rs (2 ^ i) j ∙ ap (λ (x : ℕ). x ⊕ encode rs j) (unit-row rs i)
+    ∙ xor-comm (getD rs i 0) (encode rs j)

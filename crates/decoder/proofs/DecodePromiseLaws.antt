@@ -7,8 +7,8 @@ use native.Mathlib.Omega.{arith}
 use lib.ListN.{length, getD, take, drop, length-append}
 use lib.Seq.{take-at}
 use Rattle.coding.specs.Lists.{padded}
-use Rattle.coding.specs.Matrix.{Inside}
-use Rattle.coding.specs.Check.{checks, syndrome}
+use Rattle.coding.specs.Matrix.{encode, Inside}
+use Rattle.coding.specs.Check.{checks}
 use Rattle.coding.specs.Weight.{dmin}
 use Rattle.words.specs.Limits.{maxChecks, width}
 use Rattle.words.specs.Accepted.{Accepted}
@@ -17,7 +17,9 @@ use Rattle.words.specs.declared.answer.Answer.{Answer}
 use Rattle.words.specs.declared.answer.Answer.the-variants.{Done, Refused}
 use Rattle.words.proofs.AnswerLaws.{refused-done, never, never-done, kept, filled, written}
 use Rattle.words.proofs.AcceptedLaws.{accepted-in}
-use Rattle.words.proofs.CodeLaws.{distance-is, checks-below, leader-at}
+use Rattle.words.proofs.CodeLaws.{distance-is, syndrome-below, leader-at}
+use Rattle.parity.specs.Columns.{columnsOf}
+use Rattle.parity.proofs.ColumnLaws.{columns-syndrome}
 use Rattle.leaders.specs.Leaders.{leadersList}
 use Rattle.leaders.proofs.BuiltLaws.{leaders-long}
 use Rattle.leaders.proofs.LeaderPromiseLaws.{leader-slot}
@@ -94,33 +96,35 @@ module _ (B : Batch) (L : Lent) (b : answerTo B L ≡ Done) where
 
   -- ---- the leaders stand in the working list
 
-  module _ (hs work : List ℕ) (is : hs ≡ padded maxChecks (checks (B .n) (B .rows)))
-      (ew : work ≡ leadersList (B .n) (B .k) (B .rows) ++ drop (2 ^ (B .n - B .k)) (L .work)) where
-    leaders-lent : take (2 ^ (B .n - B .k)) work ≡ leadersList (B .n) (B .k) (B .rows)
-    leaders-lent =
-        ap (take (2 ^ (B .n - B .k))) ew ∙ take-at (leadersList (B .n) (B .k) (B .rows)) _ (2 ^ (B .n - B .k)) (leaders-long (B .n) (B .k) (B .rows) A)
+  module _ (cols work : List ℕ) (size : ℕ) (are : cols ≡ take (B .n) (columnsOf (take (B .n - B .k) (padded maxChecks (checks (B .n) (B .rows))))))
+      (ew : work ≡ leadersList (B .n) (B .k) (B .rows) ++ drop (2 ^ (B .n - B .k)) (L .work)) (z : size ≡ 2 ^ (B .n - B .k)) where
+    leaders-size : length (leadersList (B .n) (B .k) (B .rows)) ≡ size
+    leaders-size = leaders-long (B .n) (B .k) (B .rows) A ∙ sym z
 
-    pub lent-long : length (take (2 ^ (B .n - B .k)) work) ≡ 2 ^ (B .n - B .k)
-    lent-long = ap length leaders-lent ∙ leaders-long (B .n) (B .k) (B .rows) A
+    leaders-lent : take size work ≡ leadersList (B .n) (B .k) (B .rows)
+    leaders-lent = ap (take size) ew ∙ take-at (leadersList (B .n) (B .k) (B .rows)) _ size leaders-size
 
-    pub work-long : 2 ^ (B .n - B .k) ≤ length work
-    work-long = omega (arith, ap length ew ∙ length-append (leadersList (B .n) (B .k) (B .rows)) _, leaders-long (B .n) (B .k) (B .rows) A)
+    pub lent-long : length (take size work) ≡ size
+    lent-long = ap length leaders-lent ∙ leaders-size
 
-    pub syndromes-fit : (w : ℕ) → syndrome hs w < length (take (2 ^ (B .n - B .k)) work)
-    syndromes-fit w = rw (lent-long, is) (checks-below (B .n) (B .k) (B .rows) A w)
+    pub work-long : size ≤ length work
+    work-long = omega (arith, ap length ew ∙ length-append (leadersList (B .n) (B .k) (B .rows)) _, leaders-size)
+
+    pub syndromes-fit : (i : ℕ) → i < length (B .words) → encode cols (getD (B .words) i 0) < length (take size work)
+    syndromes-fit i h =
+        let w = getD (B .words) i 0 in
+        rw (lent-long, z, are, columns-syndrome (B .n) (B .k) (B .rows) A w (passed .listed .inside i h)) (syndrome-below (B .n) (B .k) (B .rows) A w)
 
     -- the lists written are those of the definitions
     pub decode-ends : (out counts : List ℕ)
-        → out ≡ map (wordBy (B .reading) (take (2 ^ (B .n - B .k)) work) hs) (B .words) ++ drop (length (B .words)) (L .codewords)
-        → counts ≡ map (countBy (B .reading) (take (2 ^ (B .n - B .k)) work) hs) (B .words) ++ drop (length (B .words)) (L .counts)
+        → out ≡ map (wordBy (B .reading) (take size work) cols) (B .words) ++ drop (length (B .words)) (L .codewords)
+        → counts ≡ map (countBy (B .reading) (take size work) cols) (B .words) ++ drop (length (B .words)) (L .counts)
         → Decoded B L Done (record { codewords = out; counts = counts; work = work })
     decode-ends out counts eo ec =
-        let lent = take (2 ^ (B .n - B .k)) work in
+        let inside = passed .listed .inside in
         decode-done _
         (eo ∙ ap (λ (x : List ℕ). x ++ drop (length (B .words)) (L .codewords))
-        (ap (λ (h : List ℕ). map (wordBy (B .reading) lent h) (B .words)) is
-        ∙ words-are (B .n) (B .k) (B .rows) A (B .reading) lent leaders-lent (B .words)))
+        (words-are (B .n) (B .k) (B .rows) A (B .reading) (take size work) cols leaders-lent are (B .words) inside))
         (ec ∙ ap (λ (x : List ℕ). x ++ drop (length (B .words)) (L .counts))
-        (ap (λ (h : List ℕ). map (countBy (B .reading) lent h) (B .words)) is
-        ∙ counts-are (B .n) (B .k) (B .rows) A (B .reading) lent leaders-lent (B .words)))
+        (counts-are (B .n) (B .k) (B .rows) A (B .reading) (take size work) cols leaders-lent are (B .words) inside))
         ew

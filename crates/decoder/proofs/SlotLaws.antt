@@ -1,34 +1,76 @@
 -- Laws of Decode's slots: with the list of leaders they are those of the definition. Assumes nothing.
 use mathlib.Core.Path.{_≡_, ap, ap₂, _∙_}
 use mathlib.Core.List.{List, _++_, map}
-use Prim.Native.Nat.{ℕ, _+_, _-_, _^_, _<_}
-use lib.ListN.{length, getD, length-map, List·getD-append}
+use Prim.Native.Nat.{ℕ, _-_, _^_, _≤_, _<_}
+use lib.ListN.{length, getD, take, drop, length-map, List·getD-append}
+use lib.Seq.{take-at, drop-at}
 use Rattle.coding.specs.Lists.{padded}
-use Rattle.coding.specs.Check.{checks, syndrome}
+use Rattle.coding.specs.Matrix.{encode, Inside}
+use Rattle.coding.specs.Check.{checks}
 use Rattle.coding.specs.Leader.{syndromeOf, leaderOf}
-use Rattle.coding.proofs.ListLaws.{getD-map, map-same, getD-tabulate}
+use Rattle.coding.proofs.ListLaws.{getD-map, map-same, getD-tabulate, tabulate-map}
 use Rattle.words.specs.Limits.{maxChecks}
 use Rattle.words.specs.Accepted.{Accepted}
 use Rattle.leaders.specs.Leaders.{leadersList}
-use Rattle.words.proofs.CodeLaws.{checks-pad, syndrome-below}
+use Rattle.words.proofs.CodeLaws.{syndrome-below}
+use Rattle.words.proofs.TableLaws.{enough-slots}
+use Rattle.parity.specs.Columns.{columnsOf}
+use Rattle.parity.proofs.ColumnLaws.{columns-syndrome}
 use Rattle.outcomes.specs.Outcome.{outcomeOf, wordIn, countIn, decodedAs, wordOf, countOf}
 use Rattle.outcomes.specs.declared.ending.Reading.{Reading}
 use Rattle.outcomes.specs.declared.ending.Outcome.{Outcome}
-use Rattle.decoder.specs.Inner.SlotsBy.{wordBy, countBy}
+use Rattle.decoder.specs.Inner.SlotsBy.{wordsWith, countsWith, wordBy, countBy}
 
 -- a slot that has been written
 pub slot-at : (f : ℕ → ℕ) (ws rest : List ℕ) (i : ℕ) → i < length ws → getD (map f ws ++ rest) i 0 ≡ f (getD ws i 0)
 slot-at f ws rest i h = List·getD-append (map f ws) rest 0 i (rw (length-map ws f) h) ∙ getD-map f ws i h
 
-module _ (n k : ℕ) (rows : List ℕ) (A : Accepted n k rows) (reading : Reading) (leaders : List ℕ) (is : leaders ≡ leadersList n k rows) where
-  outcome-by : (w : ℕ) → outcomeOf reading w (getD leaders (syndrome (padded maxChecks (checks n rows)) w) 0) ≡ decodedAs n rows reading w
-  outcome-by w =
+-- words with the leaders of their syndromes beside them
+module _ (reading : Reading) (leaders cols words : List ℕ) where
+  beside : (i : ℕ) → i < length words
+      → getD (map (λ s. getD leaders s 0) (map (encode cols) words)) i 0 ≡ getD leaders (encode cols (getD words i 0)) 0
+  beside i h =
+      getD-map (λ s. getD leaders s 0) (map (encode cols) words) i (rw (length-map words (encode cols)) h)
+      ∙ ap (λ (s : ℕ). getD leaders s 0) (getD-map (encode cols) words i h)
+
+  pub words-with : wordsWith reading words (map (λ s. getD leaders s 0) (map (encode cols) words)) ≡ map (wordBy reading leaders cols) words
+  words-with = tabulate-map _ (wordBy reading leaders cols) words (λ i h. ap (λ (e : ℕ). wordIn (outcomeOf reading (getD words i 0) e) (getD words i 0)) (beside i h))
+
+  pub counts-with : countsWith reading words (map (λ s. getD leaders s 0) (map (encode cols) words)) ≡ map (countBy reading leaders cols) words
+  counts-with = tabulate-map _ (countBy reading leaders cols) words (λ i h. ap (λ (e : ℕ). countIn (outcomeOf reading (getD words i 0) e)) (beside i h))
+
+-- the syndromes stand in the first slots
+module _ (cols words out sums : List ℕ) (h : length words ≤ length out)
+    (e : sums ≡ map (encode cols) (take (length out) words) ++ drop (length words) out) where
+  all : sums ≡ map (encode cols) words ++ drop (length words) out
+  all = e ∙ enough-slots (encode cols) words out h
+
+  pub first-are : take (length words) sums ≡ map (encode cols) words
+  first-are = ap (take (length words)) all ∙ take-at (map (encode cols) words) (drop (length words) out) (length words) (length-map words (encode cols))
+
+  pub first-long : length (take (length words) sums) ≡ length words
+  first-long = ap length first-are ∙ length-map words (encode cols)
+
+  pub later-are : drop (length words) sums ≡ drop (length words) out
+  later-are = ap (drop (length words)) all ∙ drop-at (map (encode cols) words) (drop (length words) out) (length words) (length-map words (encode cols))
+
+  pub first-fit : (leaders : List ℕ) → ((i : ℕ) → i < length words → encode cols (getD words i 0) < length leaders)
+      → (i : ℕ) → i < length (take (length words) sums) → getD (take (length words) sums) i 0 < length leaders
+  first-fit leaders f i k =
+      let l : i < length words = rw first-long at k in
+      rw (first-are, getD-map (encode cols) words i l) (f i l)
+
+-- the columns of the check rows and the leaders of an accepted matrix give the slots of the definition
+module _ (n k : ℕ) (rows : List ℕ) (A : Accepted n k rows) (reading : Reading) (leaders cols : List ℕ) (is : leaders ≡ leadersList n k rows)
+    (are : cols ≡ take n (columnsOf (take (n - k) (padded maxChecks (checks n rows))))) where
+  outcome-by : (w : ℕ) → w < 2 ^ n → outcomeOf reading w (getD leaders (encode cols w) 0) ≡ decodedAs n rows reading w
+  outcome-by w h =
       ap (outcomeOf reading w)
-      (ap₂ (λ (l : List ℕ) (s : ℕ). getD l s 0) is (checks-pad n k rows A w) ∙ getD-tabulate (leaderOf n rows) (2 ^ (n - k))
-      (syndromeOf n rows w) (syndrome-below n k rows A w))
+      (ap₂ (λ (l : List ℕ) (s : ℕ). getD l s 0) is (ap (λ (l : List ℕ). encode l w) are ∙ columns-syndrome n k rows A w h)
+      ∙ getD-tabulate (leaderOf n rows) (2 ^ (n - k)) (syndromeOf n rows w) (syndrome-below n k rows A w))
 
-  pub words-are : (ws : List ℕ) → map (wordBy reading leaders (padded maxChecks (checks n rows))) ws ≡ map (wordOf n rows reading) ws
-  words-are ws = map-same _ _ ws (λ i h. ap (λ (o : Outcome). wordIn o (getD ws i 0)) (outcome-by (getD ws i 0)))
+  pub words-are : (ws : List ℕ) → Inside n ws → map (wordBy reading leaders cols) ws ≡ map (wordOf n rows reading) ws
+  words-are ws f = map-same _ _ ws (λ i h. ap (λ (o : Outcome). wordIn o (getD ws i 0)) (outcome-by (getD ws i 0) (f i h)))
 
-  pub counts-are : (ws : List ℕ) → map (countBy reading leaders (padded maxChecks (checks n rows))) ws ≡ map (countOf n rows reading) ws
-  counts-are ws = map-same _ _ ws (λ i h. ap countIn (outcome-by (getD ws i 0)))
+  pub counts-are : (ws : List ℕ) → Inside n ws → map (countBy reading leaders cols) ws ≡ map (countOf n rows reading) ws
+  counts-are ws f = map-same _ _ ws (λ i h. ap countIn (outcome-by (getD ws i 0) (f i h)))

@@ -5,20 +5,20 @@ use outcomes::Reading;
 use outcomes::count_in;
 use outcomes::outcome_of;
 use outcomes::word_in;
-use parity::syndrome;
+use parity::columns;
 use words::answer::Answer;
 use words::answer::Refusal;
-use words::limits::MAX_CHECKS;
+use words::sums::row_sums;
 ghost use mathlib.Core.Path.{_≡_};
 ghost use mathlib.Core.Bool.{true};
 ghost use mathlib.Core.List.{map, _++_};
 ghost use Prim.Native.Nat.{ℕ, _≤_, _<_};
-ghost use lib.ListN.{length, drop};
-ghost use Rattle.coding.specs.Check.{syndrome};
+ghost use lib.ListN.{length, getD, drop};
+ghost use Rattle.coding.specs.Matrix.{encode};
 ghost use Rattle.coding.specs.Weight.{dmin};
 ghost use Rattle.words.specs.Refusal.{ifDone};
 ghost use Rattle.decoder.specs.Decoded.{Decoded};
-ghost use Rattle.decoder.specs.Inner.SlotsBy.{wordBy, countBy};
+ghost use Rattle.decoder.specs.Inner.SlotsBy.{wordsWith, countsWith, wordBy, countBy};
 
 // Decodes the words: codewords and counts into the first two lists, the leaders into the third.
 pub fn decode(
@@ -47,7 +47,7 @@ pub struct Measured {
     pub dmin: u32,
 }
 
-// The same, with the minimum distance beside the answer; the codewords are walked once, in either reading.
+// The same, with the minimum distance beside the answer, which is looked for once, in either reading.
 pub fn decode_measured(
     n: u32,
     k: u32,
@@ -75,9 +75,55 @@ fn unmeasured(answer: Answer) -> Measured
     Measured { answer, dmin: 0 }
 }
 
-// Each word is decoded with its leader; the later slots keep their values.
+// Each syndrome becomes its leader.
+fn look_up(leaders: &[u32], list: &mut [u32])
+    requires { ⌜ ((i : ℕ) → i < length (now list) → getD (now list) i 0 < length (now leaders)) ⌝ }
+    ensures { λ _. ⌜ now (list .exit) ≡ map (λ s. getD (now (leaders .entry)) s 0) (now (list .entry)) ⌝ }
+{
+    let mut i: usize = 0;
+    while i < list.len() {
+        list[i] = leaders[list[i] as usize];
+        i += 1;
+    }
+}
+
+// Each leader becomes the codeword of the word beside it, and its count is written.
+fn correct(reading: Reading, words: &[u32], out: &mut [u32], counts: &mut [u8])
+    requires { ⌜ (length (now out) ≡ length (now words)) × (length (now counts) ≡ length (now words)) ⌝ }
+    ensures { λ _. ⌜ now (out .exit) ≡ wordsWith reading (now (words .entry)) (now (out .entry)) ⌝ }
+    ensures { λ _. ⌜ now (counts .exit) ≡ countsWith reading (now (words .entry)) (now (out .entry)) ⌝ }
+{
+    let mut i: usize = 0;
+    while i < words.len() {
+        let w = words[i];
+        let o = outcome_of(reading, w, out[i]);
+        out[i] = word_in(o, w);
+        counts[i] = count_in(o);
+        i += 1;
+    }
+}
+
+// The same from syndromes.
+fn answer_words(
+    reading: Reading,
+    words: &[u32],
+    leaders: &[u32],
+    out: &mut [u32],
+    counts: &mut [u8],
+)
+    requires { ⌜ (length (now out) ≡ length (now words)) × (length (now counts) ≡ length (now words)) ⌝ }
+    requires { ⌜ ((i : ℕ) → i < length (now out) → getD (now out) i 0 < length (now leaders)) ⌝ }
+    ensures { λ _. ⌜ now (out .exit) ≡ wordsWith reading (now (words .entry)) (map (λ s. getD (now (leaders .entry)) s 0) (now (out .entry))) ⌝ }
+    ensures { λ _. ⌜ now (counts .exit) ≡ countsWith reading (now (words .entry)) (map (λ s. getD (now (leaders .entry)) s 0) (now (out .entry))) ⌝ }
+{
+    look_up(leaders, out);
+    correct(reading, words, out, counts);
+}
+
+// Each word is decoded with the leader of its syndrome; the later slots keep their values. The syndromes stand in the list of the
+// codewords first.
 fn decode_words(
-    checks: &[u32; MAX_CHECKS],
+    columns: &[u32],
     reading: Reading,
     words: &[u32],
     leaders: &[u32],
@@ -85,23 +131,17 @@ fn decode_words(
     counts: &mut [u8],
 )
     requires { ⌜ (length (now words) ≤ length (now out)) × (length (now words) ≤ length (now counts)) ⌝ }
-    requires { ⌜ ((w : ℕ) → syndrome (now checks) w < length (now leaders)) ⌝ }
+    requires { ⌜ ((i : ℕ) → i < length (now words) → encode (now columns) (getD (now words) i 0) < length (now leaders)) ⌝ }
     ensures { λ _. ⌜ now (out .exit)
-        ≡ map (wordBy reading (now (leaders .entry)) (now (checks .entry))) (now (words .entry))
+        ≡ map (wordBy reading (now (leaders .entry)) (now (columns .entry))) (now (words .entry))
         ++ drop (length (now (words .entry))) (now (out .entry)) ⌝ }
     ensures { λ _. ⌜ now (counts .exit)
-        ≡ map (countBy reading (now (leaders .entry)) (now (checks .entry))) (now (words .entry))
+        ≡ map (countBy reading (now (leaders .entry)) (now (columns .entry))) (now (words .entry))
         ++ drop (length (now (words .entry))) (now (counts .entry)) ⌝ }
 {
-    let mut i: usize = 0;
-    while i < words.len() {
-        let w = words[i];
-        let s = syndrome(checks, w) as usize;
-        let o = outcome_of(reading, w, leaders[s]);
-        out[i] = word_in(o, w);
-        counts[i] = count_in(o);
-        i += 1;
-    }
+    let m = words.len();
+    row_sums(columns, words, out);
+    answer_words(reading, words, leaders, &mut out[..m], &mut counts[..m]);
 }
 
 // Decode, with the minimum distance where it is measured.
@@ -133,7 +173,15 @@ fn decode_by(
         return unmeasured(Answer::Refused(Refusal::ShortWork));
     }
     let size = 1usize << (n - k);
-    decode_words(&checks, reading, words, &work[..size], out, counts);
+    let cols = columns(&checks, (n - k) as usize);
+    decode_words(
+        &cols[..n as usize],
+        reading,
+        words,
+        &work[..size],
+        out,
+        counts,
+    );
     Measured {
         answer: Answer::Done,
         dmin: c.dmin,

@@ -1,11 +1,11 @@
 // Message: codewords are read back to the messages of the matrix as given.
-use crate::encoding::row_sums;
 use parity::code_of;
 use parity::syndrome;
 use words::answer::Answer;
 use words::answer::Refusal;
 use words::limits::MAX_CHECKS;
 use words::lists::list_cause;
+use words::sums::row_sums;
 ghost use mathlib.Core.Path.{_≡_};
 ghost use mathlib.Core.Bool.{not};
 ghost use lib.Dec.{eqb};

@@ -23,18 +23,12 @@ use Rattle.coding.proofs.TriesLaws.{tried-same, tried-zero, last-leader}
 use Rattle.words.specs.Limits.{maxChecks}
 use Rattle.words.specs.Accepted.{Accepted}
 use Rattle.words.proofs.CodeLaws.{frees-are}
-use Rattle.leaders.specs.Inner.Built.{columnsOf}
+use Rattle.parity.specs.Columns.{columnsOf}
 use Rattle.leaders.specs.Leaders.{leadersList, leadersTried}
 use Rattle.leaders.specs.LeadersBy.{filledBy, triedBy}
-use Rattle.leaders.proofs.TryLaws.{columns-inside, columns-encode}
+use Rattle.parity.proofs.ColumnLaws.{columns-encode}
 
 -- ---- by any check rows
-
--- every syndrome has an entry
-pub entries-below : (hs : List ℕ) (c w : ℕ) → encode (columnsOf (take c hs)) w < 2 ^ c
-entries-below hs c w =
-    encode-lt c (columnsOf (take c hs))
-    (columns-inside (take c hs) c (λ v. lt-of-lt-of-le (syndrome-lt (take c hs) v) (pow-mono (omega (arith, length-take c hs))))) w
 
 -- the sums of columns are the syndromes
 columns-agree : (hs : List ℕ) (n c : ℕ) → n ≤ 32 → All (λ w. encode (columnsOf hs) w ≡ syndrome hs w) (order n (suc c))

@@ -20,30 +20,11 @@ use Rattle.coding.specs.Tries.{blankCount, tried}
 use Rattle.coding.proofs.MachineLaws.{shl-one}
 use Rattle.coding.proofs.WeightLaws.{weight-zero, weight-pow}
 use Rattle.coding.proofs.MatrixLaws.{encode-xor, encode-zero, row-message}
-use Rattle.coding.proofs.LinearLaws.{syndrome-columns}
 use Rattle.coding.proofs.ListLaws.{length-tabulate, getD-tabulate}
 use Rattle.coding.proofs.BuildLaws.{light-word, fill-blank, fill-held, fills-length, fills-done, fills-append, words-few, words-step, blank-set, blank-all}
 use Rattle.coding.proofs.OrderedLaws.{words-count, order-count, order-fewer}
 use Rattle.coding.proofs.TriesLaws.{tried-done, tried-next, tried-append, tried-le}
-use Rattle.leaders.specs.Inner.Built.{columnsOf, Trying, Tried, TriedUnits}
-
--- ---- the columns
-
-pub columns-long : (checks : List ℕ) → length (columnsOf checks) ≡ 32
-unfolding columnsOf
-columns-long checks = length-tabulate (λ p. syndrome checks (2 ^ p)) 32
-
-pub columns-at : (checks : List ℕ) (p : ℕ) → p < 32 → getD (columnsOf checks) p 0 ≡ syndrome checks (2 ^ p)
-unfolding columnsOf
-columns-at checks p h = getD-tabulate (λ p. syndrome checks (2 ^ p)) 32 p h
-
--- the sum of the columns of a word's places is its syndrome
-pub columns-encode : (checks : List ℕ) (w : ℕ) → w < 2 ^ 32 → encode (columnsOf checks) w ≡ syndrome checks w
-unfolding columnsOf
-columns-encode checks w h = syndrome-columns checks 32 w h
-
-pub columns-inside : (checks : List ℕ) (c : ℕ) → ((w : ℕ) → syndrome checks w < 2 ^ c) → Inside c (columnsOf checks)
-columns-inside checks c f p h = rw (columns-at checks p (rw (columns-long checks) at h)) (f (2 ^ p))
+use Rattle.leaders.specs.Inner.Built.{Trying, Tried, TriedUnits}
 
 -- ---- what is tried, and what holds afterwards
 

@@ -1,8 +1,9 @@
 // The list of the leaders is filled: the words are tried by rising weight, of equal weight by rising number, with the syndrome kept along by one
 // column a step; a word takes the entry of its syndrome where that is blank, and the build ends with the word that fills the last one.
-use parity::syndrome;
+use parity::columns;
 use words::limits::MAX_CHECKS;
 use words::limits::WIDTH;
+use words::lists::fill;
 ghost use mathlib.Core.Path.{_≡_};
 ghost use Prim.Native.Nat.{ℕ, suc, _+_, _<_, _≤_, _^_};
 ghost use lib.ListN.{length, take};
@@ -11,35 +12,10 @@ ghost use Rattle.coding.specs.Order.{words, order, fills, blanks};
 ghost use Rattle.coding.specs.Tries.{tried};
 ghost use Rattle.words.specs.Limits.{width};
 ghost use Rattle.leaders.specs.LeadersBy.{filledBy, triedBy};
-ghost use Rattle.leaders.specs.Inner.Built.{columnsOf, Trying, Tried, TriedUnits};
+ghost use Rattle.leaders.specs.Inner.Built.{Trying, Tried, TriedUnits};
 
 // The entry of a syndrome that has no leader yet.
 const BLANK: u32 = 4294967295;
-
-// Entry p is the syndrome by the first c check rows of the word with a one at place p alone.
-fn columns(checks: &[u32; MAX_CHECKS], c: usize) -> [u32; WIDTH]
-    requires { ⌜ c < width ⌝ }
-    ensures { λ r. ⌜ r ≡ columnsOf (take c (now (checks .entry))) ⌝ }
-{
-    let mask = (1u32 << c) - 1;
-    let mut cols = [0u32; WIDTH];
-    let mut p: usize = 0;
-    while p < WIDTH {
-        cols[p] = syndrome(checks, 1u32 << p) & mask;
-        p += 1;
-    }
-    cols
-}
-
-fn clear(list: &mut [u32])
-    ensures { λ _. ⌜ now (list .exit) ≡ blanks (length (now (list .entry))) ⌝ }
-{
-    let mut i: usize = 0;
-    while i < list.len() {
-        list[i] = BLANK;
-        i += 1;
-    }
-}
 
 // The words prefix + 2^p for the places p below m, in rising order, until no entry is blank. Answers the place of the word that filled
 // the last one, or m.
@@ -161,7 +137,7 @@ fn fill_list(list: &mut [u32], cols: &[u32; WIDTH], n: usize, c: usize) -> u32
     ensures { λ _. ⌜ now (list .exit) ≡ fills (encode (now (cols .entry))) (blanks (length (now (list .entry)))) (order n (suc c)) ⌝ }
     ensures { λ r. ⌜ r ≡ tried (encode (now (cols .entry))) (blanks (length (now (list .entry)))) (order n (suc c)) ⌝ }
 {
-    clear(list);
+    fill(list, BLANK);
     list[0] = 0;
     let mut blank = (list.len() - 1) as u32;
     let mut tried: usize = 1;

@@ -4,6 +4,7 @@ use words::answer::Answer;
 use words::limits::MAX_CHECKS;
 use words::limits::MAX_ROWS;
 use words::limits::WIDTH;
+use words::lists::smaller;
 use words::word::parity;
 use words::word::place;
 ghost use mathlib.Core.Path.{_≡_};
@@ -15,6 +16,7 @@ ghost use Rattle.coding.specs.Lists.{zeros, padded};
 ghost use Rattle.coding.specs.Reduce.{freesFrom};
 ghost use Rattle.coding.specs.Check.{column, check, syndrome};
 ghost use Rattle.words.specs.Limits.{maxChecks, width};
+ghost use Rattle.parity.specs.Columns.{columnsOf};
 ghost use Rattle.parity.specs.ParityChecks.{CodeOf, ParityChecksOf};
 
 // The answer to a matrix, and where it is accepted its n - k check rows; 0 at every other entry.
@@ -80,6 +82,35 @@ fn column(rows: &[u32], q: u32) -> u32
         c = (c << 1) ^ place(rows[p], q);
     }
     c
+}
+
+// Entry p is the column of place p.
+fn column_list(rows: &[u32]) -> [u32; WIDTH]
+    requires { ⌜ length (now rows) ≤ width ⌝ }
+    ensures { λ r. ⌜ r ≡ columnsOf (now (rows .entry)) ⌝ }
+{
+    let mut columns = [0u32; WIDTH];
+    let mut p: usize = 0;
+    while p < WIDTH {
+        columns[p] = column(rows, p as u32);
+        p += 1;
+    }
+    columns
+}
+
+fn first_columns(rows: &[u32], c: usize) -> [u32; WIDTH]
+    requires { ⌜ length (now rows) ≤ width ⌝ }
+    ensures { λ r. ⌜ r ≡ columnsOf (take c (now (rows .entry))) ⌝ }
+{
+    let m = smaller(c, rows.len());
+    column_list(&rows[..m])
+}
+
+// The columns of the first c check rows: entry p is the syndrome by these of the word with a one at place p alone.
+pub fn columns(checks: &[u32; MAX_CHECKS], c: usize) -> [u32; WIDTH]
+    ensures { λ r. ⌜ r ≡ columnsOf (take c (now (checks .entry))) ⌝ }
+{
+    first_columns(checks, c)
 }
 
 // The check rows of the places below n that are no pivot, in rising order.

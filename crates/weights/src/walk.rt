@@ -2,14 +2,13 @@
 // to the whole block, so that a codeword costs one sum.
 use words::limits::WEIGHT_SLOTS;
 use words::sums::row_sum;
+use words::tables::fill_sums;
 use words::word::distance;
 ghost use mathlib.Core.Path.{_≡_};
 ghost use mathlib.Core.List.{map, _++_};
 ghost use Prim.Native.Nat.{ℕ, _+_, _<_, _≤_, _^_, min};
 ghost use lib.ListN.{length, getD};
-ghost use Rattle.coding.specs.Lists.{tabulate};
 ghost use Rattle.coding.specs.Word.{distance};
-ghost use Rattle.coding.specs.Matrix.{encode};
 ghost use Rattle.words.specs.Limits.{weightSlots, width};
 ghost use Rattle.weights.specs.Inner.Walked.{leastOf, Tallied, SmallestOf, BlockWalked, Walked};
 
@@ -19,7 +18,7 @@ const BLOCK_ROWS: usize = 8;
 const BLOCK: usize = 256;
 
 // Stands for no weight: heavier than any word.
-const NO_WEIGHT: u32 = 33;
+pub(crate) const NO_WEIGHT: u32 = 33;
 
 // Stands for no word: no word is larger.
 const NO_WORD: u32 = 4294967295;
@@ -29,18 +28,6 @@ pub(crate) struct Walk {
     pub(crate) counts: [u32; WEIGHT_SLOTS],
     pub(crate) least: u32,
     pub(crate) lightest: u32,
-}
-
-// Entry j becomes the codeword of message j.
-fn fill_block(rows: &[u32], block: &mut [u32])
-    requires { ⌜ length (now block) ≤ 256 ⌝ }
-    ensures { λ _. ⌜ now (block .exit) ≡ tabulate (encode (now (rows .entry))) (length (now (block .entry))) ⌝ }
-{
-    let mut j: usize = 0;
-    while j < block.len() {
-        block[j] = row_sum(rows, j as u32);
-        j += 1;
-    }
 }
 
 // The weights of the block's codewords, each with base added.
@@ -148,7 +135,7 @@ fn walk_blocks(front: &[u32], others: &[u32], block: &mut [u32], weights: &mut [
     requires { ⌜ length (now front) + length (now others) < width ⌝ }
     ensures { λ r. ⌜ Walked (now (front .entry) ++ now (others .entry)) (2 ^ (length (now (front .entry)) + length (now (others .entry)))) r ⌝ }
 {
-    fill_block(front, block);
+    fill_sums(front, block);
     let end = 1u32 << others.len();
     let mut walk = Walk {
         counts: [0u32; WEIGHT_SLOTS],

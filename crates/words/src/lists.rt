@@ -5,6 +5,7 @@ use crate::limits::MAX_WORDS;
 use crate::shape::first_outside;
 ghost use mathlib.Core.Path.{_≡_};
 ghost use Prim.Native.Nat.{min};
+ghost use lib.ListN.{length, replicate};
 ghost use Rattle.words.specs.Lists.{manyAnswer, insideAnswer, roomAnswer, listAnswer};
 
 // Cause 6: more than 512 words.
@@ -58,4 +59,15 @@ pub fn smaller(a: usize, b: usize) -> usize
     ensures { λ r. ⌜ r ≡ min a b ⌝ }
 {
     if a < b { a } else { b }
+}
+
+// Every entry becomes x.
+pub fn fill(list: &mut [u32], x: u32)
+    ensures { λ _. ⌜ now (list .exit) ≡ replicate (length (now (list .entry))) x ⌝ }
+{
+    let mut i: usize = 0;
+    while i < list.len() {
+        list[i] = x;
+        i += 1;
+    }
 }

@@ -3,17 +3,11 @@ use mathlib.Core.Path.{_≡_}
 use mathlib.Core.List.{List, map}
 use Prim.Native.Nat.{ℕ, _+_, _*_, _^_, _≤_, _<_}
 use lib.ListN.{length}
-use Rattle.coding.specs.Lists.{tabulate}
 use Rattle.coding.specs.Word.{weight}
 use Rattle.coding.specs.Matrix.{encode}
-use Rattle.coding.specs.Check.{syndrome}
 use Rattle.coding.specs.Order.{words, fills}
 use Rattle.coding.specs.Tries.{blankCount, tried}
 use Rattle.words.specs.Limits.{width}
-
--- the syndromes of the words with a single one
-unfoldable pub columnsOf : List ℕ → List ℕ
-columnsOf checks = tabulate (λ p. syndrome checks (2 ^ p)) width
 
 -- the words prefix + w of m places and weight t more are to be tried: the prefix has its ones at place m or beyond and its syndrome is s,
 -- every syndrome has an entry, and `blank` entries are blank, one at least

@@ -8,6 +8,7 @@ use Rattle.words.specs.Lists.{listAnswer}
 use Rattle.words.specs.declared.answer.Answer.the-variants.{Done}
 use Rattle.words.proofs.AnswerLaws.{stays, goes, kept, written}
 use Rattle.words.proofs.WordListLaws.{list-in}
+use Rattle.words.proofs.TableLaws.{enough-slots}
 use Rattle.encoder.proofs.EncoderLaws.{encoded}
 use Rattle.encoder.proofs.encoding.encode.Statement.{statement}
 use Rattle.encoder.proofs.encoding.encode.Tie as tie
@@ -46,11 +47,6 @@ returns-2 c =
     encoded (a .n) (a .k) (a .rows .now) (a .messages .now) (a .out .now) (r .list-cause .result) (a .out .now)
     (r .list-cause .ensures ∙ goes (matrixAnswer (a .n) (a .k) (a .rows .now)) _ (passed r)) (kept (r .list-cause .result) _ (c .enum-told4 .given .1) _ _)
 
-row-sums-requires : tie.Need-row-sums-requires
-row-sums-requires c κs =
-    let a = start-passed (c .before .before .before) .args in
-    list-in (a .messages .now) (a .k) (length (a .out .now)) (listed (c .before)) .room
-
 returns-3 : tie.Need-returns-3
 returns-3 c =
     let q = c .before .before in
@@ -58,10 +54,11 @@ returns-3 c =
     let a = start-passed (t .before .before) .args in
     encoded (a .n) (a .k) (a .rows .now) (a .messages .now) (a .out .now) _ _
     (sym (listed t) ∙ goes (matrixAnswer (a .n) (a .k) (a .rows .now)) _ (passed (t .before .before)))
-    (written (encode (a .rows .now)) (a .messages .now) (a .out .now) _ (q .row-sums .ensures))
+    (written (encode (a .rows .now)) (a .messages .now) (a .out .now) _
+    (q .row-sums .ensures ∙ enough-slots (encode (a .rows .now)) (a .messages .now) (a .out .now) (list-in (a .messages .now) (a .k) _ (listed t) .room)))
 
 pub encode-spec : {M : Type 1} → statement M
 encode-spec =
     tie.close
     (tie.spec (λ c κs. search needs) (λ c. search needs) (λ c. search needs) returns (λ c κs. search needs) (λ c. search needs)
-    (λ c. search needs) returns-2 row-sums-requires (λ c. search needs) returns-3)
+    (λ c. search needs) returns-2 (λ c κs. search needs) (λ c. search needs) returns-3)

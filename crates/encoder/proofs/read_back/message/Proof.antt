@@ -5,7 +5,7 @@ use Prim.Native.Nat.{ℕ}
 use lib.ListN.{length, drop}
 use borrow.Author.Needs.{needs}
 use Rattle.coding.specs.Lists.{first}
-use Rattle.coding.specs.Matrix.{messageOf, Inside}
+use Rattle.coding.specs.Matrix.{encode, messageOf, Inside}
 use Rattle.words.specs.Limits.{width}
 use Rattle.words.specs.Accepted.{matrixAnswer}
 use Rattle.words.specs.Lists.{listAnswer}
@@ -14,6 +14,7 @@ use Rattle.words.specs.declared.answer.Answer.the-variants.{Done}
 use Rattle.words.proofs.AcceptedLaws.{accepted-in}
 use Rattle.words.proofs.AnswerLaws.{stays, goes, first-refused, first-passes, kept, written}
 use Rattle.words.proofs.WordListLaws.{list-in}
+use Rattle.words.proofs.TableLaws.{enough-slots}
 use Rattle.parity.proofs.CodeOfLaws.{checks-of}
 use Rattle.encoder.specs.MessagesRead.{other}
 use Rattle.encoder.proofs.EncoderLaws.{messages-are, messages-read, past, other-found}
@@ -89,12 +90,6 @@ returns-3 c =
     (first-refused (other (a .rows .now) (a .words .now)) (length (a .words .now)) NoCodeword Done _ (found (c .before)) (c .if1 .taken)
     ∙ past (a .n) (a .k) (a .rows .now) (a .words .now) (length (a .out .now)) (passed (t .before .before)) (listed t) _) refl
 
-row-sums-requires : tie.Need-row-sums-requires
-row-sums-requires c κs =
-    let t = passed-at (read-at c .before) in
-    let a = start (code (t .before .before)) .args in
-    list-in (a .words .now) (a .n) (length (a .out .now)) (listed t) .room
-
 returns-4 : tie.Need-returns-4
 returns-4 c =
     let q = c .before .before in
@@ -110,6 +105,7 @@ returns-4 c =
     ∙ past (a .n) (a .k) rows words (length (a .out .now)) (passed l) (listed t) _)
     (written (messageOf rows) words (a .out .now) _
     (q .row-sums .ensures
+    ∙ enough-slots (encode (C .result .messages)) words (a .out .now) (list-in words (a .n) _ (listed t) .room)
     ∙ ap (λ (s : List ℕ). s ++ drop (length words) (a .out .now))
     (messages-are (a .n) (a .k) rows (accepted-in (a .n) (a .k) rows (passed l)) (C .result .messages)
     (C .ensures .messages .traced (l .before .enum-told .given .1))
@@ -119,4 +115,4 @@ pub message-spec : {M : Type 1} → statement M
 message-spec =
     tie.close
     (tie.spec (λ c κs. search needs) (λ c. search needs) (λ c. search needs) returns (λ c κs. search needs) (λ c. search needs)
-    (λ c. search needs) returns-2 (λ c κs. search needs) returns-3 (λ c. search needs) row-sums-requires (λ c. search needs) returns-4)
+    (λ c. search needs) returns-2 (λ c κs. search needs) returns-3 (λ c. search needs) (λ c κs. search needs) (λ c. search needs) returns-4)

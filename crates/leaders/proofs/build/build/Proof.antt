@@ -8,8 +8,8 @@ use borrow.Author.Needs.{needs}
 use Rattle.coding.specs.Matrix.{encode}
 use Rattle.coding.specs.Order.{order, fills, blanks}
 use Rattle.coding.specs.Tries.{tried}
-use Rattle.leaders.proofs.TryLaws.{columns-long}
-use Rattle.leaders.proofs.BuiltLaws.{entries-below, filled-columns, tried-columns}
+use Rattle.parity.proofs.ColumnLaws.{columns-long, columns-below}
+use Rattle.leaders.proofs.BuiltLaws.{filled-columns, tried-columns}
 use Rattle.leaders.proofs.build.build.Statement.{statement}
 use Rattle.leaders.proofs.build.build.Tie as tie
 
@@ -23,7 +23,7 @@ fill-list-requires c κs =
     let l : length (s .args .list .now) ≡ 2 ^ s .args .c = s .pre .2 in
     rw (c .before .before .columns .ensures, l) (
       (columns-long (take (s .args .c) hs), s .pre .0, s .pre .1, pow-pos (s .args .c), pow-lt (s .pre .1)),
-      entries-below hs (s .args .c),
+      columns-below hs (s .args .c),
     )
 
 returns : tie.Need-returns

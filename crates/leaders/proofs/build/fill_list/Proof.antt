@@ -20,13 +20,13 @@ abbrev start : tie.After-slice-known2 Inv-loop μ-loop → tie.Start Inv-loop μ
 start K = K .before .before .before .before .before
 
 -- the list is as long as it was
-long : (K : tie.After-slice-known2 Inv-loop μ-loop) → length (set (K .before .before .clear .last .0) 0 0) ≡ length (start K .args .list .now)
-long K = zero-long _ (K .before .before .clear .ensures)
+long : (K : tie.After-slice-known2 Inv-loop μ-loop) → length (set (K .before .before .fill .last .0) 0 0) ≡ length (start K .args .list .now)
+long K = zero-long _ (K .before .before .fill .ensures)
 
 loop-holds : tie.Need-loop-holds Inv-loop μ-loop
 loop-holds K =
     let p = start K .pre in
-    offered-start _ (K .before .before .clear .ensures) (p .0 .0) (p .0 .1) (p .0 .2) (p .1)
+    offered-start _ (K .before .before .fill .ensures) (p .0 .0) (p .0 .1) (p .0 .2) (p .1)
 
 -- the turn of the loop that the call stands in
 abbrev turn : tie.After-fill-words Inv-loop μ-loop → tie.In-loop Inv-loop μ-loop
@@ -58,6 +58,6 @@ pub fill-list-spec : {M : Type 1} → statement M
 fill-list-spec =
     tie.close
     (tie.spec Inv-loop μ-loop (λ c κs. search needs)
-    (λ K. omega (arith, long K, length-set (K .before .before .clear .last .0) 0 0, start K .pre)) (λ K. omega (arith, long K, start K .pre))
+    (λ K. omega (arith, long K, length-set (K .before .before .fill .last .0) 0 0, start K .pre)) (λ K. omega (arith, long K, start K .pre))
     (λ K. record { fits = omega (arith, long K, start K .pre) }) loop-holds fill-words-requires add-tried (λ c. search needs) (λ c. search needs)
     loop-again (λ c. record { fits = offered-small (c .before .loop .inv) }) (λ c. c .before .loop .inv .long ∙ long (c .before .before)) returns)

@@ -16,10 +16,10 @@ abbrev μ-loop : tie.MeasureT-loop
 μ-loop front others block weights₀ end walk₀ h₀ weights walk h = end - h
 
 -- where the block was filled
-abbrev filled : tie.At-loop Inv-loop μ-loop → tie.After-fill-block Inv-loop μ-loop
+abbrev filled : tie.At-loop Inv-loop μ-loop → tie.After-fill-sums Inv-loop μ-loop
 filled l = l .before .before .before
 
-abbrev start : tie.After-fill-block Inv-loop μ-loop → tie.Start Inv-loop μ-loop
+abbrev start : tie.After-fill-sums Inv-loop μ-loop → tie.Start Inv-loop μ-loop
 start f = f .before .before .before .before .before .before
 
 -- the turn of the loop that the call stands in
@@ -27,13 +27,13 @@ abbrev turn : tie.After-walk-block Inv-loop μ-loop → tie.In-loop Inv-loop μ-
 turn w = w .before .before .before .before
 
 -- the block is as long as it was
-long : (l : tie.At-loop Inv-loop μ-loop) → length (filled l .fill-block .last .1 .0) ≡ length (start (filled l) .args .block .now)
+long : (l : tie.At-loop Inv-loop μ-loop) → length (filled l .fill-sums .last .1 .0) ≡ length (start (filled l) .args .block .now)
 long l = block-long (l .loop .inv .1) ∙ sym (start (filled l) .pre .0 .0)
 
 loop-holds : tie.Need-loop-holds Inv-loop μ-loop
 loop-holds c =
     let f = c .before .before in
-    (refl, blocks-start (f .fill-block .ensures ∙ ap (tabulate (encode (start f .args .front .now))) (start f .pre .0 .0)) (start f .pre .1))
+    (refl, blocks-start (f .fill-sums .ensures ∙ ap (tabulate (encode (start f .args .front .now))) (start f .pre .0 .0)) (start f .pre .1))
 
 walk-block-requires : tie.Need-walk-block-requires Inv-loop μ-loop
 walk-block-requires c κs =

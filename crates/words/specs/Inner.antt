@@ -1,0 +1,1 @@
+pub mod Doubled  -- a table of sums with one row more
