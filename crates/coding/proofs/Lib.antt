@@ -22,6 +22,7 @@ pub mod UniqueLaws  -- there is no other
 pub mod CheckRowLaws  -- 01's check rows; syndrome 0 exactly on codewords
 pub mod WeightCountLaws  -- weight counts by messages
 pub mod DistanceLaws  -- the minimum distance
+pub mod PivotWeightLaws  -- sums of reduced rows weigh at least as many as they are
 pub mod LightestLaws  -- the search for the lightest, then smallest
 pub mod LightestCodewordLaws  -- the lightest codeword
 pub mod SpreadLaws  -- a word for each syndrome

@@ -23,8 +23,8 @@ use Rattle.words.proofs.AnswerLaws.{unless-done, andThen-done, andThen-assoc, s
 use Rattle.words.proofs.AnswerLaws.{Numbered, Between, Neither, neither, unless-numbered, andThen-numbered, numbered-as}
 use Rattle.words.proofs.ShapeLaws.{inside-none}
 use Rattle.words.proofs.WordListLaws.{Listed, list-in, list-numbered, list-passes}
-use Rattle.weights.specs.Description.{WeightsOf}
-use Rattle.weights.specs.declared.weights.Weights.{Weights}
+use Rattle.weights.specs.Distance.{DistanceOf}
+use Rattle.weights.specs.declared.distance.Distance.{Distance}
 use Rattle.decoder.specs.Inner.Known.{asked, KnownOf}
 use Rattle.decoder.specs.declared.matrix.Known.{Known}
 use Rattle.decoder.specs.Causes.{radiusAnswer, codeAnswer, listsAnswer, decodeAnswer}
@@ -59,8 +59,8 @@ asked-measured (Within r) measure e = refl
 pub distance-of : {n k : ℕ} {rows : List ℕ} {measure : Bool} {r : Known} → KnownOf n k rows measure r → measure ≡ true → r .answer ≡ Done → r .dmin ≡ dmin rows
 distance-of K e d = rw d at (K .distance e)
 
-pub walked-positive : {n k : ℕ} {rows : List ℕ} {w : Weights} → WeightsOf n k rows w → w .answer ≡ Done → 1 ≤ w .dmin
-walked-positive {rows = rows} {w = w} W d = let e : w .dmin ≡ dmin rows = rw d at (W .dmin-is) in rw e (W .distance d .bounds .0)
+pub measured-positive : {n k : ℕ} {rows : List ℕ} {r : Distance} → DistanceOf n k rows r → r .answer ≡ Done → 1 ≤ r .dmin
+measured-positive {rows = rows} {r = r} D d = let e : r .dmin ≡ dmin rows = rw d at (D .dmin-is) in rw e (D .distance d .bounds .0)
 
 -- a refusal has no dmin beside it
 pub no-dmin : (a : Answer) (c : Refusal) (d : ℕ) → a ≡ Refused c → 0 ≡ ifDone a d 0

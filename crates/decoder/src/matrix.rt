@@ -1,7 +1,7 @@
-// What Decode takes from the matrix: one elimination, and a walk over the codewords only where the minimum distance is asked for.
+// What Decode takes from the matrix: one elimination, and the minimum distance only where it is asked for.
 use outcomes::Reading;
 use parity::code_of;
-use weights::describe;
+use weights::distance_of;
 use words::answer::Answer;
 use words::limits::MAX_CHECKS;
 ghost use mathlib.Core.Path.{_≡_};
@@ -28,7 +28,7 @@ pub(crate) fn known_of(n: u32, k: u32, rows: &[u32], measure: bool) -> Known
     ensures { λ r. ⌜ KnownOf n k (now (rows .entry)) measure r ⌝ }
 {
     if measure {
-        let d = describe(n, k, rows);
+        let d = distance_of(n, k, rows);
         let answer = d.answer;
         let checks = d.checks;
         return Known {

@@ -1,14 +1,14 @@
--- `decoder::matrix::known_of`: the parts of the description, or those of the code. Assumes nothing.
+-- `decoder::matrix::known_of`: the distance, or the code alone. Assumes nothing.
 use borrow.Author.Needs.{needs}
 use Rattle.coding.proofs.SearchLaws.{true-false}
-use Rattle.decoder.proofs.CauseLaws.{walked-positive}
+use Rattle.decoder.proofs.CauseLaws.{measured-positive}
 use Rattle.decoder.proofs.matrix.known_of.Statement.{statement}
 use Rattle.decoder.proofs.matrix.known_of.Tie as tie
 
 returns : tie.Need-returns
 returns c =
-    let D = c .before .describe .ensures in
-    record { checks = D .checks; distance = λ _. D .weights .dmin-is; positive = λ _ d. walked-positive (D .weights) d }
+    let D = c .before .distance-of .ensures in
+    record { checks = D .checks; distance = λ _. D .dmin-is; positive = λ _ d. measured-positive D d }
 
 returns-2 : tie.Need-returns-2
 returns-2 c =

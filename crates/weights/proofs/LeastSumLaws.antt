@@ -1,0 +1,180 @@
+-- Laws of the search by rising number of rows: row by row, then number by number, until no sum of more rows can be lighter. Assumes
+-- nothing.
+use mathlib.Core.Path.{_≡_, refl, sym, ap, _∙_}
+use mathlib.Core.Logic.{_≢_, _⊎_, inl, inr}
+use mathlib.Core.List.{List}
+use Prim.Native.Nat.{ℕ, zero, suc, _+_, _-_, _^_, _≤_, _<_, min}
+use native.Mathlib.Decide.{decLe}
+use native.Mathlib.Nat.{pow-suc, lt-of-lt-of-le}
+use native.Mathlib.Numerals.{add-one}
+use native.Mathlib.Omega.{arith}
+use lib.ListN.{length, getD}
+use lib.Pow.{pow-lt, pow-pos, pow-mono}
+use lib.Bits.{xor-comm, xor-zero-r}
+use lib.Count.{ones-le}
+use Rattle.coding.specs.Word.{_⊕_, weight, distance}
+use Rattle.coding.specs.Matrix.{encode, Inside}
+use Rattle.coding.specs.Reduced.{ReducedForm}
+use Rattle.coding.specs.Weight.{dmin}
+use Rattle.coding.proofs.WordLaws.{xor-assoc}
+use Rattle.coding.proofs.WeightLaws.{weight-zero, weight-none, weight-pow, weight-one}
+use Rattle.coding.proofs.MatrixLaws.{codeword-lt, encode-top, row-message, row-codeword}
+use Rattle.coding.proofs.OrderLaws.{weight-top}
+use Rattle.coding.proofs.DistanceLaws.{dmin-le, dmin-hit}
+use Rattle.coding.proofs.PivotWeightLaws.{rows-weigh, echelon-independent, dmin-same}
+use Rattle.words.specs.Accepted.{Accepted}
+use Rattle.words.proofs.CodeLaws.{distance-is}
+use Rattle.weights.specs.Inner.LeastSum.{LeastSum, ReducedMatrix}
+
+-- a one at place p, above those of v, adds row p
+row-added : (rows : List ℕ) (p v base : ℕ) → v < 2 ^ p → distance (encode rows (2 ^ p + v)) base ≡ distance (encode rows v) (base ⊕ getD rows p 0)
+row-added rows p v base h =
+    let r = getD rows p 0 in
+    let a = encode rows v in
+    ap (λ (x : ℕ). weight (x ⊕ base)) (encode-top rows p v h) ∙ ap weight (xor-assoc a r base ∙ ap (λ (x : ℕ). a ⊕ x) (xor-comm r base))
+
+-- the places of a message below p + 1: without place p, or with it
+below : (p u : ℕ) → u < 2 ^ (p + 1) → (u < 2 ^ p) ⊎ ((v : ℕ) × (v < 2 ^ p) × (u ≡ 2 ^ p + v))
+below p u h = go (decLe (2 ^ p) u)
+  where
+    twice : 2 ^ (p + 1) ≡ 2 ^ p + 2 ^ p
+    twice = ap (λ (x : ℕ). 2 ^ x) (add-one p) ∙ omega (arith, pow-suc 2 p)
+
+    go : Dec (2 ^ p ≤ u) → (u < 2 ^ p) ⊎ ((v : ℕ) × (v < 2 ^ p) × (u ≡ 2 ^ p + v))
+    go (yes l) = inr (u - 2 ^ p, omega (arith, twice), omega arith)
+    go (no l) = inl (omega arith)
+
+wider : (p u : ℕ) → u < 2 ^ p → u < 2 ^ (p + 1)
+wider p u h = lt-of-lt-of-le h (pow-mono {i = p} {j = p + 1} (omega arith))
+
+-- ---- sums of t rows: so few rows have none
+pub least-start : (rows : List ℕ) (m t base best : ℕ) → m < t → LeastSum rows m t base best best
+least-start rows m t base best h = record {
+  upper = omega arith;
+  each = λ u l e. absurd (omega (arith, ones-le m u l));
+  one = inl refl;
+}
+
+-- with row p there come those of t - 1 rows below it, each with row p added
+pub least-next : (rows : List ℕ) (p t base best least r : ℕ) → 1 < t → LeastSum rows p t base best least
+    → LeastSum rows p (t - 1) (base ⊕ getD rows p 0) least r → LeastSum rows (p + 1) t base best r
+least-next rows p t base best least r many L R = record {
+  upper = omega (arith, L .upper, R .upper);
+  each = λ u h e. go u e (below p u h);
+  one = met (R .one) (L .one);
+}
+  where
+    go : (u : ℕ) → weight u ≡ t → (u < 2 ^ p) ⊎ ((v : ℕ) × (v < 2 ^ p) × (u ≡ 2 ^ p + v)) → r ≤ distance (encode rows u) base
+    go u e (inl l) = omega (arith, R .upper, L .each u l e)
+    go u e (inr (v, l, s)) =
+        let w : weight v ≡ t - 1 = omega (arith, weight-top p v l, ap weight s, e) in
+        rw (s, row-added rows p v base l) (R .each v l w)
+
+    met : (r ≡ least) ⊎ ((v : ℕ) × (v < 2 ^ p) × (weight v ≡ t - 1) × (r ≡ distance (encode rows v) (base ⊕ getD rows p 0)))
+        → (least ≡ best) ⊎ ((u : ℕ) × (u < 2 ^ p) × (weight u ≡ t) × (least ≡ distance (encode rows u) base))
+        → (r ≡ best) ⊎ ((u : ℕ) × (u < 2 ^ (p + 1)) × (weight u ≡ t) × (r ≡ distance (encode rows u) base))
+    met (inl e) (inl f) = inl (e ∙ f)
+    met (inl e) (inr (u, l, w, f)) = inr (u, wider p u l, w, e ∙ f)
+    met (inr (v, l, w, e)) _ =
+        inr
+        (2 ^ p + v, omega (arith, ap (λ (x : ℕ). 2 ^ x) (add-one p), pow-suc 2 p), omega (arith, weight-top p v l, w), e ∙ sym (row-added rows p v base l))
+
+-- ---- single rows
+pub least-row-start : (rows : List ℕ) (base best : ℕ) → LeastSum rows 0 1 base best best
+least-row-start rows base best = least-start rows 0 1 base best (omega arith)
+
+pub least-row-next : (rows : List ℕ) (p base best least r : ℕ) → p < length rows → LeastSum rows p 1 base best least
+    → r ≡ min least (distance (getD rows p 0) base) → LeastSum rows (p + 1) 1 base best r
+least-row-next rows p base best least r h L e =
+    least-next-row (λ u l w. go u w (below p u l))
+  where
+    row : encode rows (2 ^ p) ≡ getD rows p 0
+    row = row-message rows p h
+
+    go : (u : ℕ) → weight u ≡ 1 → (u < 2 ^ p) ⊎ ((v : ℕ) × (v < 2 ^ p) × (u ≡ 2 ^ p + v)) → r ≤ distance (encode rows u) base
+    go u w (inl l) = omega (arith, e, L .each u l w)
+    go u w (inr (v, l, s)) =
+        let z : v ≡ 0 = weight-none v (omega (arith, weight-top p v l, ap weight s, w)) in
+        let u-is : u ≡ 2 ^ p = omega (arith, s, z) in
+        rw (u-is, row) (omega (arith, e))
+
+    met : (least ≡ best) ⊎ ((u : ℕ) × (u < 2 ^ p) × (weight u ≡ 1) × (least ≡ distance (encode rows u) base)) → Dec (least ≤ distance (getD rows p 0) base)
+        → (r ≡ best) ⊎ ((u : ℕ) × (u < 2 ^ (p + 1)) × (weight u ≡ 1) × (r ≡ distance (encode rows u) base))
+    met (inl f) (yes l) = inl (omega (arith, e, f))
+    met (inr (u, b, w, f)) (yes l) = inr (u, wider p u b, w, omega (arith, e, f))
+    met _ (no l) = inr (2 ^ p, pow-lt (omega arith), weight-pow p, omega (arith, e, ap (λ (x : ℕ). distance x base) row))
+
+    least-next-row : ((u : ℕ) → u < 2 ^ (p + 1) → weight u ≡ 1 → r ≤ distance (encode rows u) base) → LeastSum rows (p + 1) 1 base best r
+    least-next-row all = record {
+      upper = omega (arith, e, L .upper);
+      each = all;
+      one = met (L .one) (decLe least (distance (getD rows p 0) base));
+    }
+
+-- ---- number by number: of the sums of fewer than t rows best is the least weight, and 33 where none has been met
+
+pub record Found (rows : List ℕ) (t best : ℕ) : Type 0 where
+  pub least : (u : ℕ) → u < 2 ^ length rows → u ≢ 0 → weight u < t → best ≤ weight (encode rows u)
+  pub one : (best ≡ 33) ⊎ ((u : ℕ) × (u < 2 ^ length rows) × (u ≢ 0) × (best ≡ weight (encode rows u)))
+
+pub found-start : (rows : List ℕ) → Found rows 1 33
+found-start rows = record { least = λ u h ne l. absurd (ne (weight-none u (omega arith))); one = inl refl }
+
+pub found-next : (rows : List ℕ) (t best r : ℕ) → 1 ≤ t → Found rows t best → LeastSum rows (length rows) t 0 best r → Found rows (t + 1) r
+found-next rows t best r some F L = record { least = λ u h ne l. go u h ne l (decLe (suc (weight u)) t); one = met (L .one) }
+  where
+    alone : (u : ℕ) → distance (encode rows u) 0 ≡ weight (encode rows u)
+    alone u = ap weight (xor-zero-r (encode rows u))
+
+    go : (u : ℕ) → u < 2 ^ length rows → u ≢ 0 → weight u < t + 1 → Dec (weight u < t) → r ≤ weight (encode rows u)
+    go u h ne l (yes k) = omega (arith, L .upper, F .least u h ne k)
+    go u h ne l (no k) = let e : weight u ≡ t = omega arith in omega (arith, L .each u h e, alone u)
+
+    met : (r ≡ best) ⊎ ((u : ℕ) × (u < 2 ^ length rows) × (weight u ≡ t) × (r ≡ distance (encode rows u) 0))
+        → (r ≡ 33) ⊎ ((u : ℕ) × (u < 2 ^ length rows) × (u ≢ 0) × (r ≡ weight (encode rows u)))
+    met (inl e) = rw e (F .one)
+    met (inr (u, h, w, e)) = inr (u, h, (λ z. absurd (omega (arith, w, ap weight z, weight-zero))), e ∙ alone u)
+
+-- no sum of t rows or more is lighter than t, and there are none of more than all rows: best is the minimum distance
+pub found-end : (rows : List ℕ) (t best : ℕ) → ReducedMatrix rows → Found rows t best → (length rows < t) ⊎ (best ≤ t) → best ≡ dmin rows
+found-end rows t best M F stop = ends (F .one)
+  where
+    A : Accepted (M .n) (M .k) rows
+    A = M .accepted
+
+    bound : (1 ≤ dmin rows) × (dmin rows ≤ 32)
+    bound = omega (arith, distance-is (M .n) (M .k) rows A .bounds, A .range .places)
+
+    lower : (u : ℕ) → u < 2 ^ length rows → u ≢ 0 → Dec (weight u < t) → (length rows < t) ⊎ (best ≤ t) → best ≤ weight (encode rows u)
+    lower u h ne (yes k) s = F .least u h ne k
+    lower u h ne (no k) (inl s) = absurd (omega (arith, ones-le (length rows) u h))
+    lower u h ne (no k) (inr s) = omega (arith, rows-weigh rows (M .pivots) (M .echelon) u h)
+
+    below-dmin : best ≤ dmin rows
+    below-dmin =
+        let (u, h, ne, e) = dmin-hit rows (omega (arith, A .range .rows, A .count)) in
+        omega (arith, lower u h ne (decLe (suc (weight u)) t) stop, e)
+
+    ends : (best ≡ 33) ⊎ ((u : ℕ) × (u < 2 ^ length rows) × (u ≢ 0) × (best ≡ weight (encode rows u))) → best ≡ dmin rows
+    ends (inl e) = absurd (omega (arith, below-dmin, bound))
+    ends (inr (u, h, ne, e)) = omega (arith, below-dmin, dmin-le rows u h ne, e)
+
+-- ---- the reduced rows of an accepted matrix
+module _ (n k : ℕ) (rows : List ℕ) (A : Accepted n k rows) (R : List ℕ) (ps : List ℕ) (F : ReducedForm rows R ps) (size : length R ≡ k) where
+  reduced-inside : Inside n R
+  reduced-inside i h = codeword-lt n rows (A .inside) (getD R i 0) (F .same-span (getD R i 0) .1 (row-codeword R i h))
+
+  pub reduced-matrix : ReducedMatrix R
+  reduced-matrix = record {
+    n = n;
+    k = k;
+    accepted = record { range = A .range; count = size; inside = reduced-inside; independent = echelon-independent R ps (F .echelon) };
+    pivots = ps;
+    echelon = F .echelon;
+  }
+
+  -- they have its minimum distance
+  pub dmin-reduced : dmin R ≡ dmin rows
+  dmin-reduced =
+      sym (dmin-same n rows R (A .inside) reduced-inside (A .independent) (echelon-independent R ps (F .echelon)) (omega (arith, A .range .rows, A .count))
+      (omega (arith, A .range .rows, size)) (F .same-span))
