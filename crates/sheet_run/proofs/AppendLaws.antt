@@ -1,12 +1,12 @@
--- Laws of writers: one byte, one writer after another, and a loop that puts one byte after the other. Assumes nothing.
+-- Laws of writers: stored bytes, one writer after another or over its end, and a loop that puts one byte after the other. Assumes nothing.
 use mathlib.Core.Path.{_≡_, refl, sym, ap, ap₂, _∙_}
 use mathlib.Core.List.{List, [], _∷_, _++_, append-assoc, append-nil}
-use Prim.Native.Nat.{ℕ, _+_, _≤_, _<_}
+use Prim.Native.Nat.{ℕ, _+_, _-_, _≤_, _<_}
 use native.Mathlib.Nat.{add-zero}
-use native.Mathlib.Numerals.{add-one}
+use native.Mathlib.Numerals.{add-one, add-two, add-three, add-four, add-five, add-six, add-seven}
 use native.Mathlib.Omega.{arith}
 use lib.ListN.{length, getD, take, drop, set, length-append, length-drop, take-append-drop}
-use lib.Seq.{sets-eq, length-take-le, drop-drop, take-at, drop-at, take-suc, take-length}
+use lib.Seq.{sets, sets-eq, length-take-le, drop-drop, drop-at, take-suc, take-length, take-append-le, take-append-add}
 use Rattle.sheet_run.specs.Inner.Appended.{Appends}
 
 module _ {before : List ℕ} {at : ℕ} {bytes after : List ℕ} {next : ℕ} (A : Appends before at bytes after next) where
@@ -25,33 +25,63 @@ module _ {before : List ℕ} {at : ℕ} {bytes after : List ℕ} {next : ℕ} (A
   pub appends-end : next ≤ length after
   appends-end = omega (arith, A .ends, A .fits, appends-length)
 
-  -- the next writer's bytes come after
-  pub then : {more last : List ℕ} {end : ℕ} → Appends after next more last end → Appends before at (bytes ++ more) last end
-  then {more} {last} {end} B =
-      let t : take next after ≡ take at before ++ bytes
-      = ap (take next) split ∙ take-at (take at before ++ bytes) (drop next before) next front in
-      let n : next + length more ≡ at + length (bytes ++ more) = omega (arith, length-append bytes more, A .ends) in
-      let d : drop (next + length more) after ≡ drop (at + length (bytes ++ more)) before
-      = sym (drop-drop (length more) next after)
-      ∙ ap (drop (length more)) (ap (drop next) split ∙ drop-at (take at before ++ bytes) (drop next before) next front)
-      ∙ drop-drop (length more) next before ∙ ap (λ (m : ℕ). drop m before) n in
+  -- so is what is behind the bytes
+  behind : (m : ℕ) → next ≤ m → drop m after ≡ drop m before
+  behind m h =
+      let e : next + (m - next) ≡ m = omega arith in
+      ap (λ (k : ℕ). drop k after) (sym e)
+      ∙ sym (drop-drop (m - next) next after)
+      ∙ ap (drop (m - next)) (ap (drop next) split ∙ drop-at (take at before ++ bytes) (drop next before) next front)
+      ∙ drop-drop (m - next) next before ∙ ap (λ (k : ℕ). drop k before) e
+
+  -- the next writer's bytes come after the first q, and reach as far as the others
+  pub then-from : (q : ℕ) → q ≤ length bytes → {more last : List ℕ} {end : ℕ} → length bytes ≤ q + length more
+      → Appends after (at + q) more last end → Appends before at (take q bytes ++ more) last end
+  then-from q h {more} {last} {end} k B =
+      let l : length (take at before) ≡ at = length-take-le at before (omega (arith, A .fits)) in
+      let n : at + q + length more ≡ at + length (take q bytes ++ more)
+      = omega (arith, length-append (take q bytes) more, length-take-le q bytes h) in
+      let t : take (at + q) after ≡ take at before ++ take q bytes
+      = ap (take (at + q)) split
+      ∙ take-append-le (at + q) (take at before ++ bytes) (drop next before) (omega (arith, front, A .ends, h))
+      ∙ ap (λ (m : ℕ). take (m + q) (take at before ++ bytes)) (sym l) ∙ take-append-add (take at before) bytes q in
+      let d : drop (at + q + length more) after ≡ drop (at + length (take q bytes ++ more)) before
+      = behind (at + q + length more) (omega (arith, A .ends, k)) ∙ ap (λ (m : ℕ). drop m before) n in
       record {
         fits = omega (arith, n, B .fits, appends-length);
         list =
             B .list
             ∙ ap₂ (λ (x y : List ℕ). x ++ more ++ y) t d
-            ∙ ap (λ (x : List ℕ). x ++ drop (at + length (bytes ++ more)) before) (append-assoc (take at before) bytes more);
+            ∙ ap (λ (x : List ℕ). x ++ drop (at + length (take q bytes ++ more)) before) (append-assoc (take at before) (take q bytes) more);
         ends = omega (arith, n, B .ends);
       }
+
+  -- the next writer's bytes come after
+  pub then : {more last : List ℕ} {end : ℕ} → Appends after next more last end → Appends before at (bytes ++ more) last end
+  then B = rw take-length at (then-from (length bytes) (omega arith) (omega arith) (rw (A .ends) at B))
 
 -- the bytes by another name
 pub appends-as : {before : List ℕ} {at : ℕ} {bytes after : List ℕ} {next : ℕ} → Appends before at bytes after next
     → (named : List ℕ) → bytes ≡ named → Appends before at named after next
 appends-as A named e = rw e at A
 
+-- bytes stored one after the other
+pub appends-sets : (bytes before : List ℕ) (at : ℕ) → at + length bytes ≤ length before
+    → Appends before at bytes (sets before at bytes) (at + length bytes)
+appends-sets bytes before at h = record { fits = h; list = sets-eq bytes before at h; ends = refl }
+
 -- one byte
 pub appends-one : (before : List ℕ) (at b : ℕ) → at + 1 ≤ length before → Appends before at (b ∷ []) (set before at b) (at + 1)
-appends-one before at b h = record { fits = h; list = sets-eq (b ∷ []) before at h; ends = refl }
+appends-one before at b h = appends-sets (b ∷ []) before at h
+
+-- eight bytes
+pub appends-eight : (before : List ℕ) (at a b c d e f g h : ℕ) → at + 8 ≤ length before
+    → Appends before at (a ∷ b ∷ c ∷ d ∷ e ∷ f ∷ g ∷ h ∷ [])
+    (set (set (set (set (set (set (set (set before at a) (at + 1) b) (at + 2) c) (at + 3) d) (at + 4) e) (at + 5) f) (at + 6) g) (at + 7) h)
+    (at + 8)
+appends-eight before at a b c d e f g h k =
+    rw (add-one, add-two, add-three, add-four, add-five, add-six, add-seven)
+    (appends-sets (a ∷ b ∷ c ∷ d ∷ e ∷ f ∷ g ∷ h ∷ []) before at k)
 
 -- no byte
 pub appends-none : (before : List ℕ) (at : ℕ) → at ≤ length before → Appends before at [] before at

@@ -3,6 +3,7 @@ pub mod DecimalLaws  -- decimal digits
 pub mod DecimalMeaning  -- what the digits mean
 pub mod LoadLaws  -- loaded words
 pub mod LineLaws  -- the parts of a line
+pub mod DigitLaws  -- digits put eight at a time
 pub mod TallyLaws  -- the outcomes added up
 pub mod BatchLaws  -- lines and tally by Decode's slots
 pub mod ClosingMeaning  -- what the closing line means

@@ -7,6 +7,7 @@ ghost use Prim.Native.Nat.{_+_, _*_, _≤_};
 ghost use lib.ListN.{length};
 ghost use mathlib.Core.Path.{_≡_};
 ghost use Rattle.sheet_run.specs.Inner.Appended.{Appends};
+ghost use Rattle.sheet_run.specs.Inner.Bytes.{bytesOf};
 ghost use Rattle.sheet_run.specs.Decimal.{decimal};
 ghost use Rattle.sheet_run.specs.Output.{refusedLine, codeLine, digitsOf, ending};
 ghost use Rattle.sheet_run.specs.Closing.{closingLine};
@@ -95,11 +96,55 @@ fn put_code(out: &mut [u8], n: u32, k: u32, d: u32) -> usize
     put_number(out, c, ((d - 1) / 2) as usize, LINE_FEED)
 }
 
-// The n digits of a word, place 0 leftmost.
+// The first eight digits of a word, one to a byte: its low byte is drawn apart into halves, quarters and single places.
+fn eight_digits(w: u32) -> u64
+    ensures { λ r. ⌜ bytesOf 8 r ≡ digitsOf 8 w ⌝ }
+{
+    let a = (w & 255) as u64;
+    let b = (a | a << 28) & 0x0000000F0000000F;
+    let c = (b | b << 14) & 0x0003000300030003;
+    let d = (c | c << 7) & 0x0101010101010101;
+    d | 0x3030303030303030
+}
+
+// The first eight digits of a word. The compiler makes one store of the eight.
+fn put_eight(out: &mut [u8], at: usize, w: u32) -> usize
+    requires { ⌜ at + 8 ≤ length (now out) ⌝ }
+    ensures { λ r. ⌜ Appends (now (out .entry)) at (digitsOf 8 w) (now (out .exit)) r ⌝ }
+{
+    let x = eight_digits(w);
+    out[at] = (x & 255) as u8;
+    out[at + 1] = ((x >> 8) & 255) as u8;
+    out[at + 2] = ((x >> 16) & 255) as u8;
+    out[at + 3] = ((x >> 24) & 255) as u8;
+    out[at + 4] = ((x >> 32) & 255) as u8;
+    out[at + 5] = ((x >> 40) & 255) as u8;
+    out[at + 6] = ((x >> 48) & 255) as u8;
+    out[at + 7] = ((x >> 56) & 255) as u8;
+    at + 8
+}
+
+// The n digits of a word, eight at a time. The last eight end at the last place, so that some of them may be put twice.
+fn put_eights(out: &mut [u8], at: usize, n: usize, w: u32) -> usize
+    requires { ⌜ (8 ≤ n) × (n ≤ width) × (at + n ≤ length (now out)) ⌝ }
+    ensures { λ r. ⌜ Appends (now (out .entry)) at (digitsOf n w) (now (out .exit)) r ⌝ }
+{
+    let mut p: usize = 0;
+    while p + 8 < n {
+        put_eight(out, at + p, w >> p);
+        p += 8;
+    }
+    put_eight(out, at + n - 8, w >> (n - 8))
+}
+
+// The n digits of a word, place 0 leftmost: in groups of eight, or one by one where there are fewer.
 fn put_digits(out: &mut [u8], at: usize, n: u32, w: u32) -> usize
     requires { ⌜ (n ≤ width) × (at + n ≤ length (now out)) ⌝ }
     ensures { λ r. ⌜ Appends (now (out .entry)) at (digitsOf n w) (now (out .exit)) r ⌝ }
 {
+    if 8 <= n {
+        return put_eights(out, at, n as usize, w);
+    }
     let mut p: usize = 0;
     while p < n as usize {
         out[at + p] = ZERO + ((w >> p) & 1) as u8;
@@ -108,12 +153,15 @@ fn put_digits(out: &mut [u8], at: usize, n: u32, w: u32) -> usize
     at + p
 }
 
-// The count, or "far".
+// The count, one digit where it is below 10, or "far".
 fn put_ending(out: &mut [u8], at: usize, count: u8) -> usize
     requires { ⌜ at + endingRoom ≤ length (now out) ⌝ }
     ensures { λ r. ⌜ Appends (now (out .entry)) at (ending (slotOutcome count)) (now (out .exit)) r ⌝ }
     ensures { λ r. ⌜ r ≤ at + endingRoom ⌝ }
 {
+    if count < 10 {
+        return put(out, at, ZERO + count);
+    }
     if count == FAR {
         return put_text(out, at, b"far");
     }

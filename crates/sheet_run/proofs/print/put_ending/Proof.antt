@@ -1,5 +1,5 @@
--- `sheet_run::print::put_ending`: 255 means far. Assumes nothing.
-use mathlib.Core.Path.{refl}
+-- `sheet_run::print::put_ending`: a count below 10 is one digit, and 255 means far. Assumes nothing.
+use mathlib.Core.Path.{refl, sym, _∙_}
 use Prim.Native.Nat.{_≤_}
 use native.Mathlib.Omega.{arith}
 use lib.ListN.{length}
@@ -7,30 +7,34 @@ use borrow.Author.Tests.{eq-eqb}
 use Rattle.sheet_run.specs.Decimal.{decimal}
 use Rattle.sheet_run.specs.Output.{ending}
 use Rattle.sheet_run.proofs.AppendLaws.{appends-as}
-use Rattle.sheet_run.proofs.DecimalLaws.{decimal-byte}
+use Rattle.sheet_run.proofs.DecimalLaws.{decimal-small, decimal-byte}
 use Rattle.sheet_run.proofs.TallyLaws.{slot-number}
 use borrow.Author.Needs.{needs}
 use Rattle.sheet_run.proofs.print.put_ending.Statement.{statement}
 use Rattle.sheet_run.proofs.print.put_ending.Tie as tie
 
 -- a count has at most 3 digits
-few : (c : tie.Else1) → length (decimal (c .before .before .args .count)) ≤ 3
-few c = let s = c .before .before in decimal-byte (s .args .count) (s .fits .count .fits)
-
-abbrev test : tie.After-put-text → tie.Then1
-test c = c .before .before .before
+few : (c : tie.Else2) → length (decimal (c .before .before .before .args .count)) ≤ 3
+few c = let s = c .before .before .before in decimal-byte (s .args .count) (s .fits .count .fits)
 
 returns : tie.Need-returns
-returns c = let t = c .before .before in (simp (eq-eqb _ 255 (test t .if1 .taken)) (t .put-text .ensures), omega arith)
+returns c =
+    let d = c .before .before in
+    let t = d .before .before .if1 .taken in
+    (appends-as (d .put .ensures) _ (sym (decimal-small _ t) ∙ slot-number ending decimal refl (λ d. refl) _ (λ z. omega arith)), omega arith)
 
 returns-2 : tie.Need-returns-2
-returns-2 c =
+returns-2 c = let t = c .before .before in (simp (eq-eqb _ 255 (t .before .before .before .if2 .taken)) (t .put-text .ensures), omega arith)
+
+returns-3 : tie.Need-returns-3
+returns-3 c =
     let d = c .before .before in
     let e = d .before .before in
-    (appends-as (d .put-decimal .ensures) _ (slot-number ending decimal refl (λ d. refl) _ (e .if1 .left)), omega (arith, few e))
+    (appends-as (d .put-decimal .ensures) _ (slot-number ending decimal refl (λ d. refl) _ (e .if2 .left)), omega (arith, few e))
 
 pub put-ending-spec : {M : Type 1} → statement M
 put-ending-spec =
     tie.close
-    (tie.spec (λ c. search needs) (λ c κs. search needs) (λ c. search needs) returns (λ c κs. omega (arith, few (c .before)))
-    (λ c. search needs) returns-2)
+    (tie.spec (λ c. omega arith) (λ c κs. omega arith) (λ c. search needs) returns
+    (λ c. search needs) (λ c κs. search needs) (λ c. search needs) returns-2 (λ c κs. omega (arith, few (c .before)))
+    (λ c. search needs) returns-3)
