@@ -7,14 +7,14 @@ use native.Mathlib.Decide.{ℕ-discrete}
 use native.Mathlib.Omega.{arith}
 use mathlib.Core.Bool.{true, false}
 use lib.Dec.{ltb, lit<, lit≤}
-use borrow.Author.Tests.{ltb-true}
+use borrow.Author.Tests.{ltb-true, ne-eqb, le-leb}
 use lib.Bits.{xor-lt, xor-self, xor-zero-r, xor-shifted}
 use lib.Count.{ones, onesIn}
 use Rattle.coding.specs.Word.{_⊕_, weight, distance}
 use Rattle.coding.specs.Matrix.{encode, Codeword, IsMessage, messageOf}
 use Rattle.coding.specs.Radius.{RadiusRules}
 use Rattle.coding.specs.Inner.SystematicSyndrome.{systematicSyndrome}
-use Rattle.coding.proofs.WeightLaws.{weight-zero}
+use Rattle.coding.proofs.WeightLaws.{weight-zero, weight-none}
 use Rattle.coding.proofs.MatrixLaws.{codeword-lt}
 use Rattle.coding.proofs.SystematicLaws.{systematic-syndrome, systematic-syndrome-xor, systematic-message, systematic-codeword}
 use Rattle.coding.proofs.SearchLaws.{codeword-test, codeword-fails}
@@ -24,7 +24,7 @@ use Rattle.words.proofs.AnswerLaws.{refused-done}
 use Rattle.words.proofs.CodeLaws.{one-is, back-is}
 use Rattle.outcomes.specs.Outcome.{outcomeOf, wordIn, countIn}
 use Rattle.outcomes.specs.declared.ending.Reading.the-variants.{Within}
-use Rattle.outcomes.specs.declared.ending.Outcome.the-variants.{Clean}
+use Rattle.outcomes.specs.declared.ending.Outcome.the-variants.{Clean, Mended, Far}
 use Rattle.outcomes.proofs.DemandLaws.{outcome-found, outcome-none, radius-rule, clean-rule}
 use Rattle.golay_code.specs.Golay.{golayChecks, golayRows}
 use Rattle.golay_code.proofs.GolayLaws.{golay-size, golay-inside, golay-accepted, golay-dmin, golay-distance}
@@ -37,6 +37,9 @@ use Rattle.golay.proofs.PatternLaws.{sum-lt, check-pattern, error-found
 no-pattern-weight : weight noPattern ≡ 4
 unfolding ones onesIn
 no-pattern-weight = refl
+
+zero-pattern : Pattern 0 0
+zero-pattern = check-pattern 0 (lit< tt) (rw weight-zero (lit≤ tt))
 
 -- a word of 24 places is a codeword exactly when its syndrome is 0
 pub golay-test : (w : ℕ) → w < 2 ^ 24 → Codeword golayRows w ↔ (systematicSyndrome 12 golayChecks w ≡ 0)
@@ -73,10 +76,22 @@ module _ (w : ℕ) (h : w < 2 ^ 24) where
 
   -- a word with the syndrome 0 is clean
   pub clean-is : systematicSyndrome 12 golayChecks w ≡ 0 → Clean w ≡ golayOutcome w
-  clean-is z = clean-zero ∙ outcome-is 0 (rw z (error-found 0 0 (check-pattern 0 (lit< tt) (rw weight-zero (lit≤ tt)))))
+  clean-is z = clean-zero ∙ outcome-is 0 (rw z (error-found 0 0 zero-pattern))
     where
       clean-zero : Clean w ≡ outcomeOf (Within 3) w 0
       clean-zero = sym (simp (weight-zero) refl)
+
+  -- where no pattern is found the word is far
+  pub far-is : (e : ℕ) → ErrorPattern (systematicSyndrome 12 golayChecks w) e → e ≡ noPattern → Far ≡ golayOutcome w
+  far-is e F z = sym (simp (no-pattern-weight) refl) ∙ outcome-is noPattern (rw z at F)
+
+  -- a pattern mends a word whose syndrome s is not 0; its weight is not 0, for the zero word has the syndrome 0
+  pub mended-is : (s e : ℕ) → s ≡ systematicSyndrome 12 golayChecks w → Pattern s e → s ≢ 0 → Mended (w ⊕ e) (weight e) ≡ golayOutcome w
+  mended-is s e q F ne =
+      sym (simp (ne-eqb (weight e) 0 heavy, le-leb (weight e) 3 (F .light)) refl) ∙ outcome-is e (error-found _ e (rw q at F))
+    where
+      heavy : weight e ≡ 0 → ⊥
+      heavy z = ne (sym (F .has) ∙ ap (systematicSyndrome 12 golayChecks) (weight-none e z) ∙ zero-pattern .has)
 
   pub golay-rules : RadiusRules ℕ (Codeword golayRows) distance 8 3 w (wordIn (golayOutcome w) w) (countIn (golayOutcome w))
       (countIn (golayOutcome w) ≡ 255)

@@ -130,7 +130,7 @@ exchanged x y s h e =
     ∙ ap (λ (a : ℕ). encode golayChecks x ⊕ a) (sym (golay-twice y h))
     ∙ sym (encode-xor golayChecks x (encode golayChecks y)) ∙ ap (encode golayChecks) e
 
-pub other-pattern : (s f : ℕ) → s < 2 ^ 12 → Pattern (encode golayChecks s) f → Pattern s ((f % 2 ^ 12) * 2 ^ 12 + f / 2 ^ 12)
+other-pattern : (s f : ℕ) → s < 2 ^ 12 → Pattern (encode golayChecks s) f → Pattern s ((f % 2 ^ 12) * 2 ^ 12 + f / 2 ^ 12)
 other-pattern s f h F = record {
   below = halves-lt y x y-lt (check-places f);
   has = pattern-syndrome 12 golayChecks y x y-lt ∙ exchanged x y (encode golayChecks s) y-lt (F .has) ∙ golay-twice s h;
@@ -146,7 +146,7 @@ other-pattern s f h F = record {
     y-lt : y < 2 ^ 12
     y-lt = message-places f (F .below)
 
-pub error-none : (s : ℕ) → FewInMessage s noPattern → FewInMessage (encode golayChecks s) noPattern → ErrorPattern s noPattern
+error-none : (s : ℕ) → FewInMessage s noPattern → FewInMessage (encode golayChecks s) noPattern → ErrorPattern s noPattern
 error-none s A B = record { found = λ ne. absurd (ne refl); none = λ _. heavy }
   where
     heavy : (d : ℕ) → d < 2 ^ 24 → systematicSyndrome 12 golayChecks d ≡ s → 3 < weight d
@@ -164,7 +164,43 @@ error-none s A B = record { found = λ ne. absurd (ne refl); none = λ _. heavy 
         go (no l) (no k) = omega (arith, whole, l, k)
 
 -- the exchange, as the code writes it
-pub exchange : (f : ℕ) → f < 2 ^ 24 → ((bitAnd f 4095 * 2 ^ 12) % 2 ^ 32) ⊕ f / 2 ^ 12 ≡ (f % 2 ^ 12) * 2 ^ 12 + f / 2 ^ 12
+exchange : (f : ℕ) → f < 2 ^ 24 → ((bitAnd f 4095 * 2 ^ 12) % 2 ^ 32) ⊕ f / 2 ^ 12 ≡ (f % 2 ^ 12) * 2 ^ 12 + f / 2 ^ 12
 exchange f h =
     ap (λ (a : ℕ). ((a * 2 ^ 12) % 2 ^ 32) ⊕ f / 2 ^ 12) (and-mask f 12)
     ∙ ap (λ (a : ℕ). a ⊕ f / 2 ^ 12) (shl-exact 12 12 32 (check-places f) (lit≤ tt)) ∙ xor-shifted (f % 2 ^ 12) 12 (f / 2 ^ 12) (message-places f h)
+
+-- ---- the two turns: s, then s times P
+
+-- t is tried in this turn, and no turn before has found a pattern; after the second there is none
+pub record Tried (s t turn : ℕ) : Type 0 where
+  pub turns : turn ≤ 2
+  pub below : t < 2 ^ 12
+  pub first : turn ≡ 0 → t ≡ s
+  pub second : turn ≡ 1 → (FewInMessage s noPattern) × (t ≡ encode golayChecks s)
+  pub neither : turn ≡ 2 → ErrorPattern s noPattern
+
+pub tried-start : (s : ℕ) → s < 2 ^ 12 → Tried s s 0
+tried-start s h = record {
+  turns = omega arith;
+  below = h;
+  first = λ _. refl;
+  second = λ z. absurd (omega (arith, z));
+  neither = λ z. absurd (omega (arith, z));
+}
+
+module _ (s t turn : ℕ) (T : Tried s t turn) where
+  pub tried-again : turn < 2 → FewInMessage t noPattern → Tried s (encode golayChecks t) (turn + 1)
+  tried-again l F = record {
+    turns = omega arith;
+    below = sum-lt t;
+    first = λ z. absurd (omega (arith, z));
+    second = λ z. let e = T .first (omega (arith, z)) in (rw e at F, ap (encode golayChecks) e);
+    neither = λ z. let (A, e) = T .second (omega (arith, z)) in error-none s A (rw e at F);
+  }
+
+  pub tried-first : (e : ℕ) → turn ≡ 0 → Pattern t e → ErrorPattern s e
+  tried-first e z F = error-found s e (rw (T .first z) at F)
+
+  -- the second turn's pattern with its halves exchanged, as the code writes it
+  pub tried-second : (f : ℕ) → s < 2 ^ 12 → turn ≡ 1 → Pattern t f → ErrorPattern s (((bitAnd f 4095 * 2 ^ 12) % 2 ^ 32) ⊕ f / 2 ^ 12)
+  tried-second f h z F = error-found s _ (rw (exchange f (F .below)) (other-pattern s f h (rw (T .second z .1) at F)))

@@ -5,9 +5,7 @@ use crate::rows::CHECK_ROWS;
 use crate::rows::check_sum;
 use crate::rows::syndrome;
 use outcomes::Outcome;
-use outcomes::Reading;
 use outcomes::count_in;
-use outcomes::outcome_of;
 use outcomes::word_in;
 use words::answer::Answer;
 use words::answer::Refusal;
@@ -37,7 +35,7 @@ fn few_in_message(s: u32) -> u32
     requires { ⌜ s < 2 ^ 12 ⌝ }
     ensures { λ r. ⌜ FewInMessage s r ⌝ }
 {
-    if weight(s) <= 3 {
+    if weight(s) <= RADIUS {
         return s;
     }
     let i = near_row(s);
@@ -48,23 +46,30 @@ fn few_in_message(s: u32) -> u32
     (1u32 << (12 + i)) ^ sum(s, rows[i as usize])
 }
 
-// An error pattern with the syndrome s and at most three places.
+// An error pattern with the syndrome s and at most three places. The second turn, with s times P, finds it with its halves exchanged. One
+// call serves both turns, so that it is compiled in line.
 fn error_pattern(s: u32) -> u32
     requires { ⌜ s < 2 ^ 12 ⌝ }
     ensures { λ r. ⌜ ErrorPattern s r ⌝ }
 {
-    let e = few_in_message(s);
-    if e != NO_PATTERN {
-        return e;
+    let mut t = s;
+    let mut turn: u32 = 0;
+    while turn < 2 {
+        let e = few_in_message(t);
+        if e != NO_PATTERN {
+            if turn == 0 {
+                return e;
+            }
+            return ((e & 4095) << 12) ^ (e >> 12);
+        }
+        t = check_sum(t);
+        turn += 1;
     }
-    let f = few_in_message(check_sum(s));
-    if f == NO_PATTERN {
-        return NO_PATTERN;
-    }
-    ((f & 4095) << 12) ^ (f >> 12)
+    NO_PATTERN
 }
 
-// How a received word ends.
+// How a received word ends. A syndrome of at most three places is itself the pattern, and its weight is at hand. A pattern has at least
+// one place, since s is not 0.
 fn outcome(received: u32) -> Outcome
     requires { ⌜ received < 2 ^ 24 ⌝ }
     ensures { λ o. ⌜ o ≡ golayOutcome received ⌝ }
@@ -73,7 +78,15 @@ fn outcome(received: u32) -> Outcome
     if s == 0 {
         return Outcome::Clean(received);
     }
-    outcome_of(Reading::Within(RADIUS), received, error_pattern(s))
+    let d = weight(s);
+    if d <= RADIUS {
+        return Outcome::Mended(sum(received, s), d as u8);
+    }
+    let e = error_pattern(s);
+    if e == NO_PATTERN {
+        return Outcome::Far;
+    }
+    Outcome::Mended(sum(received, e), weight(e) as u8)
 }
 
 // The codeword within three places of a word of 24, or far; a one outside them is refused.

@@ -42,5 +42,5 @@ pub(crate) fn check_sum(message: u32) -> u32
 pub(crate) fn syndrome(word: u32) -> u32
     ensures { λ r. ⌜ r ≡ systematicSyndrome 12 golayChecks word ⌝ }
 {
-    (word & 4095) ^ check_sum(word >> 12)
+    (word ^ check_sum(word >> 12)) & 4095
 }
