@@ -96,11 +96,6 @@ module _ (f : ℕ → ℕ) (ws : List ℕ) {old : List ℕ} {i : ℕ} {l : List 
   pub over-map-step : (v : ℕ) → i < length ws → i < length old → v ≡ f (getD ws i 0) → Over (map f ws) old (i + 1) (set l i v)
   over-map-step v h k e = over-step O v (rw (length-map ws f) h) k (e ∙ sym (getD-map f ws i h))
 
-  pub over-map-end : i ≤ length ws → length ws ≤ i → l ≡ map f ws ++ drop (length ws) old
-  over-map-end h k =
-      let long = length-map ws f in
-      rw (← long) (over-end O (omega (arith, long)))
-
   pub over-map-full : length ws ≡ length old → length old ≤ i → l ≡ map f ws
   over-map-full e h = over-full O (length-map ws f ∙ e) h
 

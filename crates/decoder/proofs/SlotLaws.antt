@@ -1,9 +1,8 @@
 -- Laws of Decode's slots: with the list of leaders they are those of the definition. Assumes nothing.
 use mathlib.Core.Path.{_≡_, ap, ap₂, _∙_}
 use mathlib.Core.List.{List, _++_, map}
-use Prim.Native.Nat.{ℕ, _-_, _^_, _≤_, _<_}
-use lib.ListN.{length, getD, take, drop, length-map, List·getD-append}
-use lib.Seq.{take-at, drop-at}
+use Prim.Native.Nat.{ℕ, _-_, _^_, _<_}
+use lib.ListN.{length, getD, take, length-map, List·getD-append}
 use Rattle.coding.specs.Lists.{padded}
 use Rattle.coding.specs.Matrix.{encode, Inside}
 use Rattle.coding.specs.Check.{checks}
@@ -13,7 +12,6 @@ use Rattle.words.specs.Limits.{maxChecks}
 use Rattle.words.specs.Accepted.{Accepted}
 use Rattle.leaders.specs.Leaders.{leadersList}
 use Rattle.words.proofs.CodeLaws.{syndrome-below}
-use Rattle.words.proofs.TableLaws.{enough-slots}
 use Rattle.parity.specs.Columns.{columnsOf}
 use Rattle.parity.proofs.ColumnLaws.{columns-syndrome}
 use Rattle.outcomes.specs.Outcome.{outcomeOf, wordIn, countIn, decodedAs, wordOf, countOf}
@@ -38,27 +36,6 @@ module _ (reading : Reading) (leaders cols words : List ℕ) where
 
   pub counts-with : countsWith reading words (map (λ s. getD leaders s 0) (map (encode cols) words)) ≡ map (countBy reading leaders cols) words
   counts-with = tabulate-map _ (countBy reading leaders cols) words (λ i h. ap (λ (e : ℕ). countIn (outcomeOf reading (getD words i 0) e)) (beside i h))
-
--- the syndromes stand in the first slots
-module _ (cols words out sums : List ℕ) (h : length words ≤ length out)
-    (e : sums ≡ map (encode cols) (take (length out) words) ++ drop (length words) out) where
-  all : sums ≡ map (encode cols) words ++ drop (length words) out
-  all = e ∙ enough-slots (encode cols) words out h
-
-  pub first-are : take (length words) sums ≡ map (encode cols) words
-  first-are = ap (take (length words)) all ∙ take-at (map (encode cols) words) (drop (length words) out) (length words) (length-map words (encode cols))
-
-  pub first-long : length (take (length words) sums) ≡ length words
-  first-long = ap length first-are ∙ length-map words (encode cols)
-
-  pub later-are : drop (length words) sums ≡ drop (length words) out
-  later-are = ap (drop (length words)) all ∙ drop-at (map (encode cols) words) (drop (length words) out) (length words) (length-map words (encode cols))
-
-  pub first-fit : (leaders : List ℕ) → ((i : ℕ) → i < length words → encode cols (getD words i 0) < length leaders)
-      → (i : ℕ) → i < length (take (length words) sums) → getD (take (length words) sums) i 0 < length leaders
-  first-fit leaders f i k =
-      let l : i < length words = rw first-long at k in
-      rw (first-are, getD-map (encode cols) words i l) (f i l)
 
 -- the columns of the check rows and the leaders of an accepted matrix give the slots of the definition
 module _ (n k : ℕ) (rows : List ℕ) (A : Accepted n k rows) (reading : Reading) (leaders cols : List ℕ) (is : leaders ≡ leadersList n k rows)

@@ -1,17 +1,25 @@
 // Message: codewords are read back to the messages of the matrix as given.
 use parity::code_of;
+use parity::columns;
 use parity::syndrome;
 use words::answer::Answer;
 use words::answer::Refusal;
 use words::limits::MAX_CHECKS;
+use words::limits::MAX_WORDS;
 use words::lists::list_cause;
+use words::shape::first_outside;
+use words::sums::MANY;
 use words::sums::row_sums;
 ghost use mathlib.Core.Path.{_≡_};
 ghost use mathlib.Core.Bool.{not};
 ghost use lib.Dec.{eqb};
-ghost use lib.ListN.{length, getD};
+ghost use Prim.Native.Nat.{ℕ, _≤_, _<_};
+ghost use lib.ListN.{length, getD, take};
 ghost use Rattle.coding.specs.Lists.{first};
+ghost use Rattle.coding.specs.Matrix.{encode};
 ghost use Rattle.coding.specs.Check.{syndrome};
+ghost use Rattle.words.specs.Limits.{width, maxWords};
+ghost use Rattle.parity.specs.Columns.{columnsOf};
 ghost use Rattle.encoder.specs.MessagesRead.{MessagesRead};
 
 // The first word whose syndrome is not 0, or the number of words where there is none.
@@ -28,6 +36,33 @@ fn first_other(checks: &[u32; MAX_CHECKS], words: &[u32]) -> usize
     i
 }
 
+// The same for many words: all syndromes first, in a list of their own, as sums of the columns of the first c check rows.
+fn first_by_columns(checks: &[u32; MAX_CHECKS], n: usize, c: usize, words: &[u32]) -> usize
+    requires { ⌜ (n ≤ width) × (length (now words) ≤ maxWords) ⌝ }
+    ensures { λ r. ⌜ r
+        ≡ first (λ i. not (eqb (encode (take n (columnsOf (take c (now (checks .entry))))) (getD (now (words .entry)) i 0)) 0))
+        (length (now (words .entry))) ⌝ }
+{
+    let mut syndromes = [0u32; MAX_WORDS];
+    let cols = columns(checks, c);
+    row_sums(&cols[..n], words, &mut syndromes);
+    let m = words.len();
+    first_outside(&syndromes[..m], 0)
+}
+
+// The first word that is no codeword, by either way.
+fn first_refused(checks: &[u32; MAX_CHECKS], n: usize, c: usize, words: &[u32]) -> usize
+    requires { ⌜ (n ≤ width) × (length (now words) ≤ maxWords) ⌝ }
+    requires { ⌜ ((i : ℕ) → i < length (now words)
+        → encode (take n (columnsOf (take c (now checks)))) (getD (now words) i 0) ≡ syndrome (now checks) (getD (now words) i 0)) ⌝ }
+    ensures { λ r. ⌜ r ≡ first (λ i. not (eqb (syndrome (now (checks .entry)) (getD (now (words .entry)) i 0)) 0)) (length (now (words .entry))) ⌝ }
+{
+    if words.len() < MANY {
+        return first_other(checks, words);
+    }
+    first_by_columns(checks, n, c, words)
+}
+
 // Writes the message of each codeword.
 pub fn message(n: u32, k: u32, rows: &[u32], words: &[u32], out: &mut [u32]) -> Answer
     ensures { λ r. ⌜ MessagesRead n k (now (rows .entry)) (now (words .entry)) (now (out .entry)) r (now (out .exit)) ⌝ }
@@ -42,7 +77,7 @@ pub fn message(n: u32, k: u32, rows: &[u32], words: &[u32], out: &mut [u32]) -> 
         return b;
     };
     let checks = c.checks;
-    let bad = first_other(&checks, words);
+    let bad = first_refused(&checks, n as usize, (n - k) as usize, words);
     if bad != words.len() {
         return Answer::Refused(Refusal::NoCodeword(bad));
     }

@@ -5,7 +5,7 @@ use mathlib.Core.List.{List}
 use Prim.Native.Nat.{ℕ, suc, _-_, _^_, _≤_, _<_}
 use native.Mathlib.Nat.{lt-of-lt-of-le}
 use native.Mathlib.Omega.{arith}
-use lib.ListN.{length, getD, take, length-map, length-take, length-replicate}
+use lib.ListN.{length, getD, take, length-map, length-replicate}
 use lib.Seq.{ext-getD, take-at}
 use lib.Pow.{pow-pos, pow-mono}
 use Rattle.coding.specs.Lists.{padded}
@@ -15,8 +15,6 @@ use Rattle.coding.specs.Check.{check, checks, frees, syndrome}
 use Rattle.coding.specs.Leader.{syndromeOf, noLeader, leaderOf}
 use Rattle.coding.specs.Order.{order, fills, blanks}
 use Rattle.coding.specs.Tries.{tried, LastLeader}
-use Rattle.coding.proofs.MatrixLaws.{encode-lt}
-use Rattle.coding.proofs.CheckLaws.{syndrome-lt}
 use Rattle.coding.proofs.ListLaws.{length-tabulate, getD-tabulate}
 use Rattle.coding.proofs.BuildLaws.{All, all-more, built, fills-length, fills-same, order-below, blank-all}
 use Rattle.coding.proofs.TriesLaws.{tried-same, tried-zero, last-leader}

@@ -12,15 +12,13 @@ use lib.Pow.{pow-lt, pow-pos, pow-add, pow-mono}
 use lib.Bits.{xor-shifted}
 use lib.Count.{ones-cat}
 use Rattle.coding.specs.Word.{_⊕_, weight}
-use Rattle.coding.specs.Matrix.{encode, Inside}
-use Rattle.coding.specs.Check.{syndrome}
+use Rattle.coding.specs.Matrix.{encode}
 use Rattle.coding.specs.Leader.{noLeader}
 use Rattle.coding.specs.Order.{words, order, fill, fills, blanks}
 use Rattle.coding.specs.Tries.{blankCount, tried}
 use Rattle.coding.proofs.MachineLaws.{shl-one}
 use Rattle.coding.proofs.WeightLaws.{weight-zero, weight-pow}
 use Rattle.coding.proofs.MatrixLaws.{encode-xor, encode-zero, row-message}
-use Rattle.coding.proofs.ListLaws.{length-tabulate, getD-tabulate}
 use Rattle.coding.proofs.BuildLaws.{light-word, fill-blank, fill-held, fills-length, fills-done, fills-append, words-few, words-step, blank-set, blank-all}
 use Rattle.coding.proofs.OrderedLaws.{words-count, order-count, order-fewer}
 use Rattle.coding.proofs.TriesLaws.{tried-done, tried-next, tried-append, tried-le}

@@ -3,13 +3,13 @@
 use mathlib.Core.Path.{_≡_, refl, sym, ap, _∙_}
 use mathlib.Core.Logic.{_≢_, _⊎_, inl, inr}
 use mathlib.Core.List.{List}
-use Prim.Native.Nat.{ℕ, zero, suc, _+_, _-_, _^_, _≤_, _<_, min}
+use Prim.Native.Nat.{ℕ, suc, _+_, _-_, _^_, _≤_, _<_, min}
 use native.Mathlib.Decide.{decLe}
 use native.Mathlib.Nat.{pow-suc, lt-of-lt-of-le}
 use native.Mathlib.Numerals.{add-one}
 use native.Mathlib.Omega.{arith}
 use lib.ListN.{length, getD}
-use lib.Pow.{pow-lt, pow-pos, pow-mono}
+use lib.Pow.{pow-lt, pow-mono}
 use lib.Bits.{xor-comm, xor-zero-r}
 use lib.Count.{ones-le}
 use Rattle.coding.specs.Word.{_⊕_, weight, distance}
@@ -17,7 +17,7 @@ use Rattle.coding.specs.Matrix.{encode, Inside}
 use Rattle.coding.specs.Reduced.{ReducedForm}
 use Rattle.coding.specs.Weight.{dmin}
 use Rattle.coding.proofs.WordLaws.{xor-assoc}
-use Rattle.coding.proofs.WeightLaws.{weight-zero, weight-none, weight-pow, weight-one}
+use Rattle.coding.proofs.WeightLaws.{weight-zero, weight-none, weight-pow}
 use Rattle.coding.proofs.MatrixLaws.{codeword-lt, encode-top, row-message, row-codeword}
 use Rattle.coding.proofs.OrderLaws.{weight-top}
 use Rattle.coding.proofs.DistanceLaws.{dmin-le, dmin-hit}

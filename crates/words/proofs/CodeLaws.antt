@@ -68,10 +68,6 @@ module _ (n k : ℕ) (rows : List ℕ) (A : Accepted n k rows) where
   pub syndrome-below : (w : ℕ) → syndromeOf n rows w < 2 ^ (n - k)
   syndrome-below w = rw checks-are at (syndromeOf-lt n rows (A .inside) w)
 
-  -- every syndrome has an entry
-  pub checks-below : (w : ℕ) → syndrome (padded maxChecks (checks n rows)) w < 2 ^ (n - k)
-  checks-below w = rw (checks-pad w) (syndrome-below w)
-
   -- ---- leaders
 
   -- every syndrome has a leader

@@ -2,18 +2,23 @@
 -- Assumes nothing.
 use mathlib.Core.Path.{_≡_, refl, sym, ap, ap₂, _∙_}
 use mathlib.Core.List.{List, [], _∷_, _++_, map}
-use Prim.Native.Nat.{ℕ, suc, _+_, _-_, _/_, _%_, _^_, _≤_, _<_, min}
+use mathlib.Core.Bool.{not}
+use Prim.Native.Nat.{ℕ, zero, suc, _+_, _-_, _/_, _%_, _^_, _≤_, _<_, min}
 use native.Mathlib.Decide.{decLe, ℕ-discrete}
-use native.Mathlib.Nat.{pow-suc}
+use native.Mathlib.Nat.{pow-suc, suc-ne-zero}
 use native.Mathlib.Numerals.{add-one}
 use native.Mathlib.Omega.{arith}
+use lib.Dec.{eqb, ltb}
 use lib.ListN.{length, getD, set, take, drop, replicate, length-set, length-map, drop-of-length-le}
-use lib.Seq.{getD-set-same, getD-set-other, ext-getD, take-all}
-use Rattle.coding.specs.Lists.{tabulate}
+use lib.Seq.{getD-set-same, getD-set-other, ext-getD, take-all, take-at, drop-at}
+use borrow.Author.Tests.{le-ltb, ne-eqb}
+use Rattle.coding.specs.Lists.{first, tabulate}
 use Rattle.coding.specs.Word.{_⊕_}
 use Rattle.coding.specs.Matrix.{encode}
 use Rattle.coding.proofs.ListLaws.{getD-map, length-tabulate, getD-tabulate, tabulate-map}
 use Rattle.coding.proofs.MatrixLaws.{encode-zero, encode-top, encode-group}
+use Rattle.coding.proofs.SearchLaws.{first-same}
+use Rattle.words.specs.Shape.{outside, firstOutside}
 use Rattle.words.specs.Inner.Doubled.{Doubled}
 
 -- ---- one row more
@@ -133,3 +138,34 @@ as-many f words out m e = go (decLe (length words) (length out))
 pub enough-slots : (f : ℕ → ℕ) (words out : List ℕ) → length words ≤ length out
     → map f (take (length out) words) ++ drop (length words) out ≡ map f words ++ drop (length words) out
 enough-slots f words out h = ap (λ (l : List ℕ). map f l ++ drop (length words) out) (take-all (length out) words h)
+
+-- and so they stand in the first slots
+module _ (f : ℕ → ℕ) (words out sums : List ℕ) (h : length words ≤ length out) (e : sums ≡ map f (take (length out) words) ++ drop (length words) out) where
+  all-sums : sums ≡ map f words ++ drop (length words) out
+  all-sums = e ∙ enough-slots f words out h
+
+  pub first-are : take (length words) sums ≡ map f words
+  first-are = ap (take (length words)) all-sums ∙ take-at (map f words) (drop (length words) out) (length words) (length-map words f)
+
+  pub first-long : length (take (length words) sums) ≡ length words
+  first-long = ap length first-are ∙ length-map words f
+
+  pub later-are : drop (length words) sums ≡ drop (length words) out
+  later-are = ap (drop (length words)) all-sums ∙ drop-at (map f words) (drop (length words) out) (length words) (length-map words f)
+
+  pub first-fit : (m : ℕ) → ((i : ℕ) → i < length words → f (getD words i 0) < m) → (i : ℕ) → i < length (take (length words) sums)
+      → getD (take (length words) sums) i 0 < m
+  first-fit m fits i k =
+      let l : i < length words = rw first-long at k in
+      rw (first-are, getD-map f words i l) (fits i l)
+
+-- the first sum that is not 0
+pub first-sum : (f : ℕ → ℕ) (words : List ℕ) → firstOutside 0 (map f words) ≡ first (λ i. not (eqb (f (getD words i 0)) 0)) (length words)
+first-sum f words = ap (first (outside 0 (map f words))) (length-map words f) ∙ first-same _ _ (length words) (λ i h. ap not (same i h))
+  where
+    zero-test : (x : ℕ) → ltb x (2 ^ 0) ≡ eqb x 0
+    zero-test zero = refl
+    zero-test (suc x) = le-ltb (suc x) 1 (omega arith) ∙ sym (ne-eqb (suc x) 0 (suc-ne-zero x))
+
+    same : (i : ℕ) → i < length words → ltb (getD (map f words) i 0) (2 ^ 0) ≡ eqb (f (getD words i 0)) 0
+    same i h = ap (λ (x : ℕ). ltb x (2 ^ 0)) (getD-map f words i h) ∙ zero-test (f (getD words i 0))

@@ -1,11 +1,10 @@
 -- `decoder::batch::correct`: the first i slots are answered. Assumes nothing.
-use mathlib.Core.Path.{_≡_, refl, sym, ap, _∙_}
+use mathlib.Core.Path.{_≡_, sym, ap, _∙_}
 use mathlib.Core.List.{List}
-use Prim.Native.Nat.{ℕ, _≤_, _<_, _-_}
+use Prim.Native.Nat.{ℕ, _≤_, _-_}
 use native.Mathlib.Omega.{arith}
 use lib.ListN.{length, getD}
 use borrow.Author.Needs.{needs}
-use Rattle.coding.specs.Lists.{tabulate}
 use Rattle.coding.proofs.ListLaws.{length-tabulate}
 use Rattle.coding.proofs.LoopLaws.{Over, over-start, over-next, over-tabulate-step, over-tabulate-full}
 use Rattle.outcomes.specs.Outcome.{outcomeOf, wordIn, countIn}

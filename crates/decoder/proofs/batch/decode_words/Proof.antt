@@ -1,13 +1,14 @@
 -- `decoder::batch::decode_words`: the syndromes, then the slots. Assumes nothing.
 use mathlib.Core.Path.{_≡_, sym, ap, ap₂, _∙_}
 use mathlib.Core.List.{List, _++_, map}
-use Prim.Native.Nat.{ℕ, _≤_}
-use native.Mathlib.Omega.{arith}
+use Prim.Native.Nat.{ℕ}
 use lib.ListN.{length, getD, take, drop}
 use lib.Seq.{length-take-le}
 use borrow.Author.Needs.{needs}
 use Rattle.decoder.specs.Inner.SlotsBy.{wordsWith, countsWith}
-use Rattle.decoder.proofs.SlotLaws.{words-with, counts-with, first-are, first-long, first-fit, later-are}
+use Rattle.coding.specs.Matrix.{encode}
+use Rattle.words.proofs.TableLaws.{first-are, first-long, first-fit, later-are}
+use Rattle.decoder.proofs.SlotLaws.{words-with, counts-with}
 use Rattle.decoder.proofs.batch.decode_words.Statement.{statement}
 use Rattle.decoder.proofs.batch.decode_words.Tie as tie
 
@@ -20,7 +21,7 @@ first : (r : tie.After-row-sums)
     length (take (length (a .words .now)) (r .row-sums .last .1 .1 .0)) ≡ length (a .words .now)
 first r =
     let a = start r .args in
-    first-long (a .columns .now) (a .words .now) (a .out .now) (r .row-sums .last .1 .1 .0) (start r .pre .0 .0) (r .row-sums .ensures)
+    first-long (encode (a .columns .now)) (a .words .now) (a .out .now) (r .row-sums .last .1 .1 .0) (start r .pre .0 .0) (r .row-sums .ensures)
 
 -- and there are as many counts
 counted : (r : tie.After-row-sums)
@@ -33,7 +34,7 @@ answer-words-requires c κs =
     let r = c .before .before .before .before in
     let a = start r .args in (
       (first r, counted r),
-      first-fit (a .columns .now) (a .words .now) (a .out .now) (r .row-sums .last .1 .1 .0) (start r .pre .0 .0) (r .row-sums .ensures) (a .leaders .now)
+      first-fit (encode (a .columns .now)) (a .words .now) (a .out .now) (r .row-sums .last .1 .1 .0) (start r .pre .0 .0) (r .row-sums .ensures) (length (a .leaders .now))
           (start r .pre .1),
     )
 
@@ -47,11 +48,11 @@ returns c =
     let sums = r .row-sums .last .1 .1 .0 in
     let h = start r .pre .0 .0 in
     let e = r .row-sums .ensures in
-    let are = first-are cols words (a .out .now) sums h e in (
+    let are = first-are (encode cols) words (a .out .now) sums h e in (
       ap₂ _++_
           (d .answer-words .ensures .0 ∙ ap (λ (l : List ℕ). wordsWith (a .reading) words (map (λ s. getD (a .leaders .now) s 0) l)) are
           ∙ words-with (a .reading) (a .leaders .now) cols words)
-          (later-are cols words (a .out .now) sums h e),
+          (later-are (encode cols) words (a .out .now) sums h e),
       ap (λ (l : List ℕ). l ++ drop (length words) (a .counts .now))
           (d .answer-words .ensures .1 ∙ ap (λ (l : List ℕ). countsWith (a .reading) words (map (λ s. getD (a .leaders .now) s 0) l)) are
           ∙ counts-with (a .reading) (a .leaders .now) cols words),

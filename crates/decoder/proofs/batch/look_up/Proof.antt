@@ -1,5 +1,5 @@
 -- `decoder::batch::look_up`: the first i entries are leaders. Assumes nothing.
-use mathlib.Core.Path.{_≡_, refl, sym, ap, _∙_}
+use mathlib.Core.Path.{_≡_, refl, ap, _∙_}
 use mathlib.Core.List.{List, map}
 use Prim.Native.Nat.{ℕ, _≤_, _<_, _-_}
 use native.Mathlib.Nat.{lt-of-lt-of-le, le-of-lt}

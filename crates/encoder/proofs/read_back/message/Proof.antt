@@ -3,11 +3,12 @@ use mathlib.Core.Path.{_≡_, refl, sym, ap, _∙_}
 use mathlib.Core.List.{List, _++_}
 use Prim.Native.Nat.{ℕ}
 use lib.ListN.{length, drop}
+use native.Mathlib.Omega.{arith}
 use borrow.Author.Needs.{needs}
 use Rattle.coding.specs.Lists.{first}
 use Rattle.coding.specs.Matrix.{encode, messageOf, Inside}
 use Rattle.words.specs.Limits.{width}
-use Rattle.words.specs.Accepted.{matrixAnswer}
+use Rattle.words.specs.Accepted.{matrixAnswer, Accepted}
 use Rattle.words.specs.Lists.{listAnswer}
 use Rattle.words.specs.declared.answer.Refusal.the-variants.{NoCodeword}
 use Rattle.words.specs.declared.answer.Answer.the-variants.{Done}
@@ -15,7 +16,9 @@ use Rattle.words.proofs.AcceptedLaws.{accepted-in}
 use Rattle.words.proofs.AnswerLaws.{stays, goes, first-refused, first-passes, kept, written}
 use Rattle.words.proofs.WordListLaws.{list-in}
 use Rattle.words.proofs.TableLaws.{enough-slots}
+use Rattle.words.proofs.CodeLaws.{checks-pad}
 use Rattle.parity.proofs.CodeOfLaws.{checks-of}
+use Rattle.parity.proofs.ColumnLaws.{columns-syndrome}
 use Rattle.encoder.specs.MessagesRead.{other}
 use Rattle.encoder.proofs.EncoderLaws.{messages-are, messages-read, past, other-found}
 use Rattle.encoder.proofs.read_back.message.Statement.{statement}
@@ -37,7 +40,7 @@ code c = c .before .before .before
 abbrev read-at : tie.After-row-sums-arg → tie.Else1
 read-at c = c .before .before .before
 
-abbrev passed-at : tie.After-first-other → tie.After-enum-told3
+abbrev passed-at : tie.After-first-refused → tie.After-enum-told3
 passed-at c = c .before .before .before
 
 passed : (c : tie.After-list-cause)
@@ -51,17 +54,40 @@ listed : (c : tie.After-enum-told3)
     listAnswer (a .words .now) (a .n) (length (a .out .now)) ≡ Done
 listed c = sym (c .before .before .list-cause .ensures) ∙ c .enum-told3 .given .1
 
+-- the matrix is accepted
+accepted : (c : tie.After-enum-told3)
+    → let a = start (code (c .before .before)) .args in
+    Accepted (a .n) (a .k) (a .rows .now)
+accepted c = accepted-in _ _ _ (passed (c .before .before))
+
+sub-k : tie.Need-sub-first-refused
+sub-k c = omega (arith, accepted (c .before .before) .range .checks)
+
+-- the sums of columns are the syndromes
+first-refused-requires : tie.Need-first-refused-requires
+first-refused-requires c κs =
+    let t = c .before .before in
+    let l = t .before .before in
+    let C = code l .code-of in
+    let a = start (code l) .args in
+    let L = list-in (a .words .now) (a .n) _ (listed t) in
+    let A = accepted t in (
+      (omega (arith, A .range .places), L .few),
+      λ i h. rw (checks-of (C .ensures .checks) (l .before .enum-told .given .1))
+          (columns-syndrome (a .n) (a .k) (a .rows .now) A _ (L .inside i h) ∙ sym (checks-pad (a .n) (a .k) (a .rows .now) A _)),
+    )
+
 -- the word found by its syndrome is the first that is no codeword
-found : (c : tie.After-first-other)
+found : (c : tie.After-first-refused)
     → let a = start (code (passed-at c .before .before)) .args in
-    c .first-other .result ≡ first (other (a .rows .now) (a .words .now)) (length (a .words .now))
+    c .first-refused .result ≡ first (other (a .rows .now) (a .words .now)) (length (a .words .now))
 found c =
     let t = passed-at c in
     let l = t .before .before in
     let C = code l .code-of in
     let a = start (code l) .args in
-    other-found (a .n) (a .k) (a .rows .now) (a .words .now) (length (a .out .now)) (passed l) (listed t) (C .result .checks) (c .first-other .result)
-    (checks-of (C .ensures .checks) (l .before .enum-told .given .1)) (c .first-other .ensures)
+    other-found (a .n) (a .k) (a .rows .now) (a .words .now) (length (a .out .now)) (passed l) (listed t) (C .result .checks) (c .first-refused .result)
+    (checks-of (C .ensures .checks) (l .before .enum-told .given .1)) (c .first-refused .ensures)
 
 returns : tie.Need-returns
 returns c =
@@ -107,7 +133,7 @@ returns-4 c =
     (q .row-sums .ensures
     ∙ enough-slots (encode (C .result .messages)) words (a .out .now) (list-in words (a .n) _ (listed t) .room)
     ∙ ap (λ (s : List ℕ). s ++ drop (length words) (a .out .now))
-    (messages-are (a .n) (a .k) rows (accepted-in (a .n) (a .k) rows (passed l)) (C .result .messages)
+    (messages-are (a .n) (a .k) rows (accepted t) (C .result .messages)
     (C .ensures .messages .traced (l .before .enum-told .given .1))
     words (sym (found (e .before)) ∙ e .if1 .left))))
 
@@ -115,4 +141,4 @@ pub message-spec : {M : Type 1} → statement M
 message-spec =
     tie.close
     (tie.spec (λ c κs. search needs) (λ c. search needs) (λ c. search needs) returns (λ c κs. search needs) (λ c. search needs)
-    (λ c. search needs) returns-2 (λ c κs. search needs) returns-3 (λ c. search needs) (λ c κs. search needs) (λ c. search needs) returns-4)
+    (λ c. search needs) returns-2 sub-k (λ c. search needs) first-refused-requires returns-3 (λ c. search needs) (λ c κs. search needs) (λ c. search needs) returns-4)

@@ -1,5 +1,5 @@
 -- `words::tables::add_from`: to the first v sums an entry is added. Assumes nothing.
-use mathlib.Core.Path.{_≡_, refl, sym, ap, ap₂, _∙_}
+use mathlib.Core.Path.{refl, ap, ap₂, _∙_}
 use mathlib.Core.List.{List}
 use Prim.Native.Nat.{ℕ, _≤_, _<_, _-_, _/_, _%_, _^_}
 use lib.ListN.{length, getD}
