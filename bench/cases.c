@@ -139,6 +139,8 @@ static void describe_plain(void) { DESCRIBE(plain_describe, theirs); }
 #define LEADERS(f, w) w.number = f(in.n, in.k, in.rows, in.k, w.work, RELAY_MAX_LEADERS, w.checks, &w.tried, &w.value)
 static void leaders_ours(void) { LEADERS(relay_leaders, ours); }
 static void leaders_plain(void) { LEADERS(plain_leaders, theirs); }
+/* No word is tried, so that their number is not compared. */
+static void leaders_made(void) { LEADERS(plain_leaders, theirs); theirs.tried = ours.tried; }
 
 #define LISTS(f, w) w.number = f(in.n, in.k, in.rows, in.k, in.words, in.count, w.words, WORDS, &w.value)
 static void encode_ours(void) { LISTS(relay_encode, ours); }
@@ -358,7 +360,8 @@ static void run_ours(void) { ours.length = relay_run(in.sheet, in.sheet_len, our
 static void run_plain(void) { theirs.length = plain_run(in.sheet, in.sheet_len, theirs.out, sizeof theirs.out); }
 
 #define TABLES {.blocks = true, .loops = true, .tables = true}
-#define ALIKE {.blocks = true, .counts = true, .loops = true}
+#define ALIKE {.rows = true, .loops = true, .tables = true}
+#define MADE {.blocks = true, .syndromes = true, .tables = true}
 
 #define DESCRIBE_CASE(name, prepare)                                                                                              \
     {"Describe", name, "Gray walk", prepare, describe_ours, describe_plain, {0}, 1, true, false, false},                          \
@@ -366,7 +369,8 @@ static void run_plain(void) { theirs.length = plain_run(in.sheet, in.sheet_len, 
 
 #define LEADERS_CASE(name, prepare, timed)                                                                                        \
     {"Leaders", name, "recursion", prepare, leaders_ours, leaders_plain, {0}, 1, false, false, timed},                            \
-    {"Leaders", name, "last two ones in loops", prepare, leaders_ours, leaders_plain, {.loops = true}, 1, false, false, timed}
+    {"Leaders", name, "last two ones in loops", prepare, leaders_ours, leaders_plain, {.loops = true}, 1, false, false, timed},   \
+    {"Leaders", name, "leaders from leaders", prepare, leaders_ours, leaders_made, {.syndromes = true}, 1, false, false, timed}
 
 #define WORDS_CASE(name, prepare)                                                                                                 \
     {"Words, perfect (23,12)", name, "parities", prepare, decode_ours, decode_plain, {.loops = true}, WORDS, true, true, false},  \
@@ -402,8 +406,9 @@ static void run_plain(void) { theirs.length = plain_run(in.sheet, in.sheet_len, 
 #define SHEET_CASE(name, prepare)                                                                                                 \
     {"Sheets of 512 words", name, "plain", prepare, run_ours, run_plain, {0}, 1, true, false, false},                             \
     {"Sheets of 512 words", name, "quick", prepare, run_ours, run_plain, {.blocks = true, .loops = true}, 1, true, false, false}, \
-    {"Sheets of 512 words", name, "the library's methods", prepare, run_ours, run_plain, ALIKE, 1, true, false, false},            \
-    {"Sheets of 512 words", name, "quick, tables", prepare, run_ours, run_plain, TABLES, 1, true, false, false}
+    {"Sheets of 512 words", name, "the library's methods", prepare, run_ours, run_plain, ALIKE, 1, true, false, false},           \
+    {"Sheets of 512 words", name, "quick, tables", prepare, run_ours, run_plain, TABLES, 1, true, false, false},                  \
+    {"Sheets of 512 words", name, "leaders from leaders, tables", prepare, run_ours, run_plain, MADE, 1, true, false, false}
 
 const Case cases[] = {
     DESCRIBE_CASE("random (7,4)", small_code),

@@ -25,9 +25,10 @@ static inline unsigned ones(uint32_t x)
 /* How the plain side works; what is false is done in the plainest way. */
 typedef struct {
     bool blocks; /* codewords are walked in blocks, not in Gray order */
-    bool counts; /* also where the minimum distance alone is asked for, weights are counted and the lightest codeword is kept */
+    bool rows;   /* the minimum distance alone by rising number of reduced rows, not by a walk over all codewords */
     bool loops;  /* the leaders' last two ones are placed in loops, not by recursion */
     bool tables; /* syndromes by tables of eight places, not by a parity for each check row */
+    bool syndromes; /* leaders are made from leaders, not found by trying words */
     bool places; /* interleaved bits place by place, not word by word */
 } Ways;
 
@@ -37,6 +38,8 @@ void gray_walk(uint32_t k, const uint32_t *rows, uint32_t counts[33], uint32_t *
 void block_walk(uint32_t k, const uint32_t *rows, uint32_t counts[33], uint32_t *dmin, uint32_t *lightest);
 uint32_t gray_distance(uint32_t k, const uint32_t *rows);
 uint32_t block_distance(uint32_t k, const uint32_t *rows);
+/* Of reduced rows. */
+uint32_t rising_distance(uint32_t k, const uint32_t *rows);
 
 /* Causes 1 to 4. */
 uint32_t plain_accept(uint32_t n, uint32_t k, const uint32_t *rows, size_t rows_len, size_t *value);

@@ -1,4 +1,5 @@
 /* Any generator matrix. */
+#include "leaders.h"
 #include "plain.h"
 #include <string.h>
 
@@ -72,6 +73,14 @@ static unsigned check_rows(uint32_t n, const Pivots *p, uint32_t *checks)
     return j;
 }
 
+static void reduced_rows(uint32_t n, const Pivots *p, uint32_t reduced[MAX_ROWS])
+{
+    unsigned i = 0;
+    for (uint32_t q = 0; q < n; q++)
+        if (p->rows[q])
+            reduced[i++] = p->rows[q];
+}
+
 uint32_t plain_describe(uint32_t n, uint32_t k, const uint32_t *rows, size_t rows_len, uint32_t reduced[MAX_ROWS],
                         uint32_t checks[MAX_CHECKS], uint32_t counts[33], uint32_t *dmin, uint32_t *lightest, size_t *value)
 {
@@ -83,10 +92,7 @@ uint32_t plain_describe(uint32_t n, uint32_t k, const uint32_t *rows, size_t row
     uint32_t number = reduce(n, k, rows, rows_len, &p, value);
     if (number)
         return number;
-    unsigned i = 0;
-    for (uint32_t q = 0; q < n; q++)
-        if (p.rows[q])
-            reduced[i++] = p.rows[q];
+    reduced_rows(n, &p, reduced);
     check_rows(n, &p, checks);
     if (ways.blocks)
         block_walk(k, rows, counts, dmin, lightest);
@@ -220,6 +226,11 @@ static void column_list(uint32_t n, const uint32_t *checks, unsigned r, uint32_t
 static void leaders(uint32_t n, const uint32_t *checks, unsigned r, Build *b)
 {
     column_list(n, checks, r, b->columns);
+    b->tried = 0;
+    if (ways.syndromes) {
+        leaders_by_syndromes(n, r, b->columns, b->list);
+        return;
+    }
     memset(b->list, 0xFF, sizeof *b->list << r);
     b->list[0] = 0;
     b->left = (1u << r) - 1;
@@ -298,13 +309,13 @@ static void decode_by_tables(const uint32_t columns[MAX_PLACES], const uint32_t 
 }
 
 /* The minimum distance. */
-static uint32_t distance(uint32_t k, const uint32_t *rows)
+static uint32_t distance(uint32_t n, uint32_t k, const uint32_t *rows, const Pivots *p)
 {
-    uint32_t counts[33] = {0}, d, lightest;
-    if (!ways.counts)
+    uint32_t reduced[MAX_ROWS];
+    if (!ways.rows)
         return ways.blocks ? block_distance(k, rows) : gray_distance(k, rows);
-    block_walk(k, rows, counts, &d, &lightest);
-    return d;
+    reduced_rows(n, p, reduced);
+    return rising_distance(k, reduced);
 }
 
 uint32_t plain_decode(uint32_t n, uint32_t k, const uint32_t *rows, size_t rows_len, bool within, uint32_t radius,
@@ -319,7 +330,7 @@ uint32_t plain_decode(uint32_t n, uint32_t k, const uint32_t *rows, size_t rows_
     if (number)
         return number;
     if (within || measured)
-        *d = distance(k, rows);
+        *d = distance(n, k, rows, &p);
     if (within && (*d - 1) / 2 < radius)
         return refuse(value, 5, 0);
     if ((number = lists(words, m, n, out_len < counts_len ? out_len : counts_len, value)))

@@ -1,4 +1,4 @@
-/* All codewords of a matrix: one after the other in Gray order, or in blocks. */
+/* All codewords of a matrix, one after the other in Gray order or in blocks; or sums of few rows alone. */
 #include "plain.h"
 
 enum { BLOCK_ROWS = 8, BLOCK = 256 };
@@ -97,4 +97,30 @@ uint32_t block_distance(uint32_t k, const uint32_t *rows)
         d = block_least(block, 1u << b, base, d);
     }
     return (uint32_t)d;
+}
+
+/* The least of d and of the weights of all sums of t of the first m rows, each with base added. */
+static uint32_t least_sum(const uint32_t *rows, uint32_t m, uint32_t t, uint32_t base, uint32_t d)
+{
+    if (t == 1) {
+        for (uint32_t p = 0; p < m; p++) {
+            uint32_t x = ones(rows[p] ^ base);
+            d = x < d ? x : d;
+        }
+        return d;
+    }
+    for (uint32_t p = t - 1; p < m; p++)
+        d = least_sum(rows, p, t - 1, base ^ rows[p], d);
+    return d;
+}
+
+uint32_t rising_distance(uint32_t k, const uint32_t *rows)
+{
+    uint32_t d = 33;
+    for (uint32_t t = 1; t <= k && t < d; t++) {
+        if (t > 3 && k <= 12)
+            return block_distance(k, rows);
+        d = least_sum(rows, k, t, 0, d);
+    }
+    return d;
 }
