@@ -96,7 +96,7 @@ module _ (B : Batch) (L : Lent) (b : answerTo B L ≡ Done) where
 
   -- ---- the leaders stand in the working list
 
-  module _ (cols work : List ℕ) (size : ℕ) (are : cols ≡ take (B .n) (columnsOf (take (B .n - B .k) (padded maxChecks (checks (B .n) (B .rows))))))
+  module _ (cols work : List ℕ) (size : ℕ) (are : cols ≡ take (B .n) (columnsOf (B .n) (take (B .n - B .k) (padded maxChecks (checks (B .n) (B .rows))))))
       (ew : work ≡ leadersList (B .n) (B .k) (B .rows) ++ drop (2 ^ (B .n - B .k)) (L .work)) (z : size ≡ 2 ^ (B .n - B .k)) where
     leaders-size : length (leadersList (B .n) (B .k) (B .rows)) ≡ size
     leaders-size = leaders-long (B .n) (B .k) (B .rows) A ∙ sym z

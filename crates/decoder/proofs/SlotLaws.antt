@@ -39,7 +39,7 @@ module _ (reading : Reading) (leaders cols words : List ℕ) where
 
 -- the columns of the check rows and the leaders of an accepted matrix give the slots of the definition
 module _ (n k : ℕ) (rows : List ℕ) (A : Accepted n k rows) (reading : Reading) (leaders cols : List ℕ) (is : leaders ≡ leadersList n k rows)
-    (are : cols ≡ take n (columnsOf (take (n - k) (padded maxChecks (checks n rows))))) where
+    (are : cols ≡ take n (columnsOf n (take (n - k) (padded maxChecks (checks n rows))))) where
   outcome-by : (w : ℕ) → w < 2 ^ n → outcomeOf reading w (getD leaders (encode cols w) 0) ≡ decodedAs n rows reading w
   outcome-by w h =
       ap (outcomeOf reading w)

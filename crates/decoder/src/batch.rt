@@ -173,7 +173,7 @@ fn decode_by(
         return unmeasured(Answer::Refused(Refusal::ShortWork));
     }
     let size = 1usize << (n - k);
-    let cols = columns(&checks, (n - k) as usize);
+    let cols = columns(&checks, n as usize, (n - k) as usize);
     decode_words(
         &cols[..n as usize],
         reading,

@@ -40,11 +40,11 @@ fn first_other(checks: &[u32; MAX_CHECKS], words: &[u32]) -> usize
 fn first_by_columns(checks: &[u32; MAX_CHECKS], n: usize, c: usize, words: &[u32]) -> usize
     requires { ⌜ (n ≤ width) × (length (now words) ≤ maxWords) ⌝ }
     ensures { λ r. ⌜ r
-        ≡ first (λ i. not (eqb (encode (take n (columnsOf (take c (now (checks .entry))))) (getD (now (words .entry)) i 0)) 0))
+        ≡ first (λ i. not (eqb (encode (take n (columnsOf n (take c (now (checks .entry))))) (getD (now (words .entry)) i 0)) 0))
         (length (now (words .entry))) ⌝ }
 {
     let mut syndromes = [0u32; MAX_WORDS];
-    let cols = columns(checks, c);
+    let cols = columns(checks, n, c);
     row_sums(&cols[..n], words, &mut syndromes);
     let m = words.len();
     first_outside(&syndromes[..m], 0)
@@ -54,7 +54,7 @@ fn first_by_columns(checks: &[u32; MAX_CHECKS], n: usize, c: usize, words: &[u32
 fn first_refused(checks: &[u32; MAX_CHECKS], n: usize, c: usize, words: &[u32]) -> usize
     requires { ⌜ (n ≤ width) × (length (now words) ≤ maxWords) ⌝ }
     requires { ⌜ ((i : ℕ) → i < length (now words)
-        → encode (take n (columnsOf (take c (now checks)))) (getD (now words) i 0) ≡ syndrome (now checks) (getD (now words) i 0)) ⌝ }
+        → encode (take n (columnsOf n (take c (now checks)))) (getD (now words) i 0) ≡ syndrome (now checks) (getD (now words) i 0)) ⌝ }
     ensures { λ r. ⌜ r ≡ first (λ i. not (eqb (syndrome (now (checks .entry)) (getD (now (words .entry)) i 0)) 0)) (length (now (words .entry))) ⌝ }
 {
     if words.len() < MANY {

@@ -3,11 +3,10 @@
 use mathlib.Core.Path.{_≡_, sym, ap, _∙_}
 use mathlib.Core.List.{List}
 use Prim.Native.Nat.{ℕ, suc, _-_, _^_, _≤_, _<_}
-use native.Mathlib.Nat.{lt-of-lt-of-le}
 use native.Mathlib.Omega.{arith}
 use lib.ListN.{length, getD, take, length-map, length-replicate}
 use lib.Seq.{ext-getD, take-at}
-use lib.Pow.{pow-pos, pow-mono}
+use lib.Pow.{pow-pos}
 use Rattle.coding.specs.Lists.{padded}
 use Rattle.coding.specs.Matrix.{encode}
 use Rattle.coding.specs.Reduce.{reduce}
@@ -29,18 +28,18 @@ use Rattle.parity.proofs.ColumnLaws.{columns-encode}
 -- ---- by any check rows
 
 -- the sums of columns are the syndromes
-columns-agree : (hs : List ℕ) (n c : ℕ) → n ≤ 32 → All (λ w. encode (columnsOf hs) w ≡ syndrome hs w) (order n (suc c))
+columns-agree : (hs : List ℕ) (n c : ℕ) → n ≤ 32 → All (λ w. encode (columnsOf n hs) w ≡ syndrome hs w) (order n (suc c))
 columns-agree hs n c h =
-    all-more (λ w. w < 2 ^ n) (λ w. encode (columnsOf hs) w ≡ syndrome hs w)
-    (λ w l. columns-encode hs w (lt-of-lt-of-le l (pow-mono {i = n} {j = 32} h))) (order n (suc c)) (order-below n (suc c))
+    all-more (λ w. w < 2 ^ n) (λ w. encode (columnsOf n hs) w ≡ syndrome hs w) (λ w l. columns-encode n hs w h l) (order n (suc c))
+    (order-below n (suc c))
 
-pub filled-columns : (hs : List ℕ) (n c : ℕ) → n ≤ 32 → fills (encode (columnsOf hs)) (blanks (2 ^ c)) (order n (suc c)) ≡ filledBy hs n c
+pub filled-columns : (hs : List ℕ) (n c : ℕ) → n ≤ 32 → fills (encode (columnsOf n hs)) (blanks (2 ^ c)) (order n (suc c)) ≡ filledBy hs n c
 unfolding filledBy
-filled-columns hs n c h = fills-same (encode (columnsOf hs)) (syndrome hs) (order n (suc c)) (blanks (2 ^ c)) (columns-agree hs n c h)
+filled-columns hs n c h = fills-same (encode (columnsOf n hs)) (syndrome hs) (order n (suc c)) (blanks (2 ^ c)) (columns-agree hs n c h)
 
-pub tried-columns : (hs : List ℕ) (n c : ℕ) → n ≤ 32 → tried (encode (columnsOf hs)) (blanks (2 ^ c)) (order n (suc c)) ≡ triedBy hs n c
+pub tried-columns : (hs : List ℕ) (n c : ℕ) → n ≤ 32 → tried (encode (columnsOf n hs)) (blanks (2 ^ c)) (order n (suc c)) ≡ triedBy hs n c
 unfolding triedBy
-tried-columns hs n c h = tried-same (encode (columnsOf hs)) (syndrome hs) (order n (suc c)) (blanks (2 ^ c)) (columns-agree hs n c h)
+tried-columns hs n c h = tried-same (encode (columnsOf n hs)) (syndrome hs) (order n (suc c)) (blanks (2 ^ c)) (columns-agree hs n c h)
 
 -- the zero word at least is tried
 pub tried-some : (hs : List ℕ) (n c : ℕ) → 1 ≤ triedBy hs n c

@@ -155,6 +155,6 @@ pub(crate) fn build(checks: &[u32; MAX_CHECKS], n: usize, c: usize, list: &mut [
     ensures { λ _. ⌜ now (list .exit) ≡ filledBy (take c (now (checks .entry))) n c ⌝ }
     ensures { λ r. ⌜ r ≡ triedBy (take c (now (checks .entry))) n c ⌝ }
 {
-    let cols = columns(checks, c);
+    let cols = columns(checks, n, c);
     fill_list(list, &cols, n, c)
 }

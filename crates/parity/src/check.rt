@@ -84,33 +84,34 @@ fn column(rows: &[u32], q: u32) -> u32
     c
 }
 
-// Entry p is the column of place p.
-fn column_list(rows: &[u32]) -> [u32; WIDTH]
+// Entry p is the column of place p, for the first n places.
+fn column_list(rows: &[u32], n: usize) -> [u32; WIDTH]
     requires { ⌜ length (now rows) ≤ width ⌝ }
-    ensures { λ r. ⌜ r ≡ columnsOf (now (rows .entry)) ⌝ }
+    ensures { λ r. ⌜ r ≡ columnsOf n (now (rows .entry)) ⌝ }
 {
+    let end = smaller(n, WIDTH);
     let mut columns = [0u32; WIDTH];
     let mut p: usize = 0;
-    while p < WIDTH {
+    while p < end {
         columns[p] = column(rows, p as u32);
         p += 1;
     }
     columns
 }
 
-fn first_columns(rows: &[u32], c: usize) -> [u32; WIDTH]
+fn first_columns(rows: &[u32], n: usize, c: usize) -> [u32; WIDTH]
     requires { ⌜ length (now rows) ≤ width ⌝ }
-    ensures { λ r. ⌜ r ≡ columnsOf (take c (now (rows .entry))) ⌝ }
+    ensures { λ r. ⌜ r ≡ columnsOf n (take c (now (rows .entry))) ⌝ }
 {
     let m = smaller(c, rows.len());
-    column_list(&rows[..m])
+    column_list(&rows[..m], n)
 }
 
-// The columns of the first c check rows: entry p is the syndrome by these of the word with a one at place p alone.
-pub fn columns(checks: &[u32; MAX_CHECKS], c: usize) -> [u32; WIDTH]
-    ensures { λ r. ⌜ r ≡ columnsOf (take c (now (checks .entry))) ⌝ }
+// The columns of the first c check rows, of n places: entry p is the syndrome by these of the word with a one at place p alone.
+pub fn columns(checks: &[u32; MAX_CHECKS], n: usize, c: usize) -> [u32; WIDTH]
+    ensures { λ r. ⌜ r ≡ columnsOf n (take c (now (checks .entry))) ⌝ }
 {
-    first_columns(checks, c)
+    first_columns(checks, n, c)
 }
 
 // The check rows of the places below n that are no pivot, in rising order.

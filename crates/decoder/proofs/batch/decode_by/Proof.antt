@@ -128,17 +128,17 @@ work-is c =
 -- the columns are those of its check rows
 cols-are : (c : tie.After-columns)
     → let a = begun (c .before .before .before) .args in
-    take (a .n) (c .columns .result) ≡ take (a .n) (columnsOf (take (a .n - a .k) (padded maxChecks (checks (a .n) (a .rows .now)))))
+    take (a .n) (c .columns .result) ≡ take (a .n) (columnsOf (a .n) (take (a .n - a .k) (padded maxChecks (checks (a .n) (a .rows .now)))))
 cols-are c =
     let e = c .before .before in
     let a = begun (e .before) .args in
-    ap (take (a .n)) (c .columns .ensures ∙ ap (λ (h : List ℕ). columnsOf (take (a .n - a .k) h)) (rows-are e))
+    ap (take (a .n)) (c .columns .ensures ∙ ap (λ (h : List ℕ). columnsOf (a .n) (take (a .n - a .k) h)) (rows-are e))
 
 -- there is one for each place
 cols-long : (c : tie.After-columns) → begun (c .before .before .before) .args .n ≤ length (c .columns .result)
 cols-long c =
     let e = c .before .before in
-    omega (arith, ap length (c .columns .ensures) ∙ columns-long _, accepted (passed (e .before)) .range .places)
+    omega (arith, ap length (c .columns .ensures) ∙ columns-long _ _, accepted (passed (e .before)) .range .places)
 
 abbrev ready : tie.After-decode-words-arg3 → tie.After-columns
 ready c = c .before .before .before .before

@@ -18,7 +18,7 @@ use Rattle.encoder.proofs.read_back.first_by_columns.Tie as tie
 
 -- there is a column for each place
 enough : (c : tie.After-columns) → c .before .before .args .n ≤ length (c .columns .result)
-enough c = omega (arith, ap length (c .columns .ensures) ∙ columns-long _, c .before .before .pre .0)
+enough c = omega (arith, ap length (c .columns .ensures) ∙ columns-long _ _, c .before .before .pre .0)
 
 abbrev start : tie.After-row-sums → tie.Start
 start r = r .before .before .before .before .before
@@ -29,7 +29,7 @@ returns c =
     let a = start r .args in
     c .first-outside .ensures ∙ ap (firstOutside 0) (first-are _ (a .words .now) (zeros 512) _ (start r .pre .1) (r .row-sums .ensures))
     ∙ ap (λ (l : List ℕ). firstOutside 0 (map (encode (take (a .n) l)) (a .words .now))) (r .before .before .before .columns .ensures)
-    ∙ first-sum (encode (take (a .n) (columnsOf (take (a .c) (a .checks .now))))) (a .words .now)
+    ∙ first-sum (encode (take (a .n) (columnsOf (a .n) (take (a .c) (a .checks .now))))) (a .words .now)
 
 pub first-by-columns-spec : {M : Type 1} → statement M
 first-by-columns-spec =

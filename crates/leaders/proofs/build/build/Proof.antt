@@ -22,8 +22,8 @@ fill-list-requires c κs =
     let hs = s .args .checks .now in
     let l : length (s .args .list .now) ≡ 2 ^ s .args .c = s .pre .2 in
     rw (c .before .before .columns .ensures, l) (
-      (columns-long (take (s .args .c) hs), s .pre .0, s .pre .1, pow-pos (s .args .c), pow-lt (s .pre .1)),
-      columns-below hs (s .args .c),
+      (columns-long (s .args .n) (take (s .args .c) hs), s .pre .0, s .pre .1, pow-pos (s .args .c), pow-lt (s .pre .1)),
+      columns-below (s .args .n) hs (s .args .c),
     )
 
 returns : tie.Need-returns

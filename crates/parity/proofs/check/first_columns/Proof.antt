@@ -19,7 +19,7 @@ returns : tie.Need-returns
 returns c =
     let m = c .before .before in
     let a = m .before .before .args in
-    c .column-list .ensures ∙ ap columnsOf (take-most (a .rows .now) (a .c) _ (m .smaller .ensures))
+    c .column-list .ensures ∙ ap (columnsOf (a .n)) (take-most (a .rows .now) (a .c) _ (m .smaller .ensures))
 
 pub first-columns-spec : {M : Type 1} → statement M
 first-columns-spec = tie.close (tie.spec (λ c κs. search needs) (λ c. sym (size (c .before))) column-list-requires returns)
