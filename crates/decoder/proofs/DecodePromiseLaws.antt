@@ -18,8 +18,8 @@ use Rattle.words.specs.declared.answer.Answer.the-variants.{Done, Refused}
 use Rattle.words.proofs.AnswerLaws.{refused-done, never, never-done, kept, filled, written}
 use Rattle.words.proofs.AcceptedLaws.{accepted-in}
 use Rattle.words.proofs.CodeLaws.{distance-is, syndrome-below, leader-at}
-use Rattle.parity.specs.Columns.{columnsOf}
-use Rattle.parity.proofs.ColumnLaws.{columns-syndrome}
+use Rattle.parity.specs.CheckColumns.{columnsOf}
+use Rattle.parity.proofs.CheckColumnLaws.{columns-syndrome}
 use Rattle.leaders.specs.Leaders.{leadersList}
 use Rattle.leaders.proofs.BuiltLaws.{leaders-long}
 use Rattle.leaders.proofs.LeaderPromiseLaws.{leader-slot}

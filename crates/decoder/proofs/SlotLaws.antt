@@ -12,8 +12,8 @@ use Rattle.words.specs.Limits.{maxChecks}
 use Rattle.words.specs.Accepted.{Accepted}
 use Rattle.leaders.specs.Leaders.{leadersList}
 use Rattle.words.proofs.CodeLaws.{syndrome-below}
-use Rattle.parity.specs.Columns.{columnsOf}
-use Rattle.parity.proofs.ColumnLaws.{columns-syndrome}
+use Rattle.parity.specs.CheckColumns.{columnsOf}
+use Rattle.parity.proofs.CheckColumnLaws.{columns-syndrome}
 use Rattle.outcomes.specs.Outcome.{outcomeOf, wordIn, countIn, decodedAs, wordOf, countOf}
 use Rattle.outcomes.specs.declared.ending.Reading.{Reading}
 use Rattle.outcomes.specs.declared.ending.Outcome.{Outcome}
@@ -32,7 +32,9 @@ module _ (reading : Reading) (leaders cols words : List ℕ) where
       ∙ ap (λ (s : ℕ). getD leaders s 0) (getD-map (encode cols) words i h)
 
   pub words-with : wordsWith reading words (map (λ s. getD leaders s 0) (map (encode cols) words)) ≡ map (wordBy reading leaders cols) words
-  words-with = tabulate-map _ (wordBy reading leaders cols) words (λ i h. ap (λ (e : ℕ). wordIn (outcomeOf reading (getD words i 0) e) (getD words i 0)) (beside i h))
+  words-with =
+      tabulate-map _ (wordBy reading leaders cols) words
+      (λ i h. ap (λ (e : ℕ). wordIn (outcomeOf reading (getD words i 0) e) (getD words i 0)) (beside i h))
 
   pub counts-with : countsWith reading words (map (λ s. getD leaders s 0) (map (encode cols) words)) ≡ map (countBy reading leaders cols) words
   counts-with = tabulate-map _ (countBy reading leaders cols) words (λ i h. ap (λ (e : ℕ). countIn (outcomeOf reading (getD words i 0) e)) (beside i h))

@@ -19,7 +19,7 @@ ghost use Rattle.coding.specs.Lists.{first};
 ghost use Rattle.coding.specs.Matrix.{encode};
 ghost use Rattle.coding.specs.Check.{syndrome};
 ghost use Rattle.words.specs.Limits.{width, maxWords};
-ghost use Rattle.parity.specs.Columns.{columnsOf};
+ghost use Rattle.parity.specs.CheckColumns.{columnsOf};
 ghost use Rattle.encoder.specs.MessagesRead.{MessagesRead};
 
 // The first word whose syndrome is not 0, or the number of words where there is none.

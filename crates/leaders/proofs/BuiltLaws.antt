@@ -20,10 +20,10 @@ use Rattle.coding.proofs.TriesLaws.{tried-same, tried-zero, last-leader}
 use Rattle.words.specs.Limits.{maxChecks}
 use Rattle.words.specs.Accepted.{Accepted}
 use Rattle.words.proofs.CodeLaws.{frees-are}
-use Rattle.parity.specs.Columns.{columnsOf}
+use Rattle.parity.specs.CheckColumns.{columnsOf}
 use Rattle.leaders.specs.Leaders.{leadersList, leadersTried}
 use Rattle.leaders.specs.LeadersBy.{filledBy, triedBy}
-use Rattle.parity.proofs.ColumnLaws.{columns-encode}
+use Rattle.parity.proofs.CheckColumnLaws.{columns-encode}
 
 -- ---- by any check rows
 

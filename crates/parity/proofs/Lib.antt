@@ -1,4 +1,4 @@
 mod CheckPackLaws  -- check rows read off a table
 pub mod ParityLaws  -- the check rows are those of the definition
 pub mod CodeOfLaws  -- what the code leaves known to a caller
-pub mod ColumnLaws  -- the columns of check rows
+pub mod CheckColumnLaws  -- the columns of check rows

@@ -16,7 +16,7 @@ ghost use Rattle.coding.specs.Lists.{zeros, padded};
 ghost use Rattle.coding.specs.Reduce.{freesFrom};
 ghost use Rattle.coding.specs.Check.{column, check, syndrome};
 ghost use Rattle.words.specs.Limits.{maxChecks, width};
-ghost use Rattle.parity.specs.Columns.{columnsOf};
+ghost use Rattle.parity.specs.CheckColumns.{columnsOf};
 ghost use Rattle.parity.specs.ParityChecks.{CodeOf, ParityChecksOf};
 
 // The answer to a matrix, and where it is accepted its n - k check rows; 0 at every other entry.

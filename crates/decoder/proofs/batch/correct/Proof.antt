@@ -47,10 +47,11 @@ ended c =
     let a = start l .args in
     let i = l .loop .i in
     let new = wordsWith (a .reading) (a .words .now) (a .out .now) in
+    let long = length-tabulate (wordAt (a .reading) (a .words .now) (a .out .now)) (length (a .words .now)) in
     c .outcome-of .ensures
     ∙ ap (outcomeOf (a .reading) (getD (a .words .now) i 0))
     (ap (λ (x : List ℕ). getD x i 0) (l .loop .inv .1 .list)
-    ∙ over-next new (a .out .now) i (omega (arith, length-tabulate (wordAt (a .reading) (a .words .now) (a .out .now)) (length (a .words .now)), l .loop .inv .0)))
+    ∙ over-next new (a .out .now) i (omega (arith, long, l .loop .inv .0)))
 
 loop-again : tie.Need-loop-again Inv-loop μ-loop
 loop-again c =

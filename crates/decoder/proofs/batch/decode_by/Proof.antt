@@ -14,8 +14,8 @@ use Rattle.words.specs.Limits.{maxChecks, width}
 use Rattle.words.specs.Accepted.{Accepted}
 use Rattle.words.specs.declared.answer.Answer.{Answer}
 use Rattle.words.specs.declared.answer.Answer.the-variants.{Done}
-use Rattle.parity.specs.Columns.{columnsOf}
-use Rattle.parity.proofs.ColumnLaws.{columns-long}
+use Rattle.parity.specs.CheckColumns.{columnsOf}
+use Rattle.parity.proofs.CheckColumnLaws.{columns-long}
 use Rattle.leaders.specs.Leaders.{workAnswer, leadersList}
 use Rattle.leaders.proofs.LeaderPromiseLaws.{work-short, work-done, list-kept, leaders-stand}
 use Rattle.decoder.specs.Decoded.{Batch, Lent}

@@ -34,8 +34,8 @@ answer-words-requires c κs =
     let r = c .before .before .before .before in
     let a = start r .args in (
       (first r, counted r),
-      first-fit (encode (a .columns .now)) (a .words .now) (a .out .now) (r .row-sums .last .1 .1 .0) (start r .pre .0 .0) (r .row-sums .ensures) (length (a .leaders .now))
-          (start r .pre .1),
+      first-fit (encode (a .columns .now)) (a .words .now) (a .out .now) (r .row-sums .last .1 .1 .0) (start r .pre .0 .0) (r .row-sums .ensures)
+          (length (a .leaders .now)) (start r .pre .1),
     )
 
 returns : tie.Need-returns

@@ -23,12 +23,15 @@ abbrev μ-loop : tie.MeasureT-loop
 more : (c : tie.In-loop Inv-loop μ-loop) → c .before .loop .i < length (c .before .before .args .list .now)
 more c = omega (arith, c .before .loop .inv .1 .long, c .loop-test .taken)
 
-next : (c : tie.In-loop Inv-loop μ-loop) → getD (c .before .loop .list) (c .before .loop .i) 0 ≡ getD (c .before .before .args .list .now) (c .before .loop .i) 0
+next : (c : tie.In-loop Inv-loop μ-loop)
+    → let i = c .before .loop .i in
+    getD (c .before .loop .list) i 0 ≡ getD (c .before .before .args .list .now) i 0
 next c =
     let l = c .before .loop in
     let a = c .before .before .args in
     ap (λ (x : List ℕ). getD x (l .i) 0) (l .inv .1 .list)
-    ∙ over-next (map (leaderAt (a .leaders .now)) (a .list .now)) (a .list .now) (l .i) (omega (arith, length-map (a .list .now) (leaderAt (a .leaders .now)), more c))
+    ∙ over-next (map (leaderAt (a .leaders .now)) (a .list .now)) (a .list .now) (l .i)
+    (omega (arith, length-map (a .list .now) (leaderAt (a .leaders .now)), more c))
 
 led : (c : tie.In-loop Inv-loop μ-loop) → getD (c .before .loop .list) (c .before .loop .i) 0 < length (c .before .before .args .leaders .now)
 led c = rw (next c) (c .before .before .pre (c .before .loop .i) (more c))

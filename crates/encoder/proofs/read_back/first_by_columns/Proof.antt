@@ -11,8 +11,8 @@ use Rattle.coding.specs.Lists.{zeros}
 use Rattle.coding.specs.Matrix.{encode}
 use Rattle.words.specs.Shape.{firstOutside}
 use Rattle.words.proofs.TableLaws.{first-are, first-long, first-sum}
-use Rattle.parity.specs.Columns.{columnsOf}
-use Rattle.parity.proofs.ColumnLaws.{columns-long}
+use Rattle.parity.specs.CheckColumns.{columnsOf}
+use Rattle.parity.proofs.CheckColumnLaws.{columns-long}
 use Rattle.encoder.proofs.read_back.first_by_columns.Statement.{statement}
 use Rattle.encoder.proofs.read_back.first_by_columns.Tie as tie
 

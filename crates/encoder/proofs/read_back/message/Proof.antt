@@ -18,7 +18,7 @@ use Rattle.words.proofs.WordListLaws.{list-in}
 use Rattle.words.proofs.TableLaws.{enough-slots}
 use Rattle.words.proofs.CodeLaws.{checks-pad}
 use Rattle.parity.proofs.CodeOfLaws.{checks-of}
-use Rattle.parity.proofs.ColumnLaws.{columns-syndrome}
+use Rattle.parity.proofs.CheckColumnLaws.{columns-syndrome}
 use Rattle.encoder.specs.MessagesRead.{other}
 use Rattle.encoder.proofs.EncoderLaws.{messages-are, messages-read, past, other-found}
 use Rattle.encoder.proofs.read_back.message.Statement.{statement}
@@ -141,4 +141,5 @@ pub message-spec : {M : Type 1} → statement M
 message-spec =
     tie.close
     (tie.spec (λ c κs. search needs) (λ c. search needs) (λ c. search needs) returns (λ c κs. search needs) (λ c. search needs)
-    (λ c. search needs) returns-2 sub-k (λ c. search needs) first-refused-requires returns-3 (λ c. search needs) (λ c κs. search needs) (λ c. search needs) returns-4)
+    (λ c. search needs) returns-2 sub-k (λ c. search needs) first-refused-requires returns-3 (λ c. search needs) (λ c κs. search needs)
+    (λ c. search needs) returns-4)

@@ -8,7 +8,7 @@ use borrow.Author.Needs.{needs}
 use Rattle.coding.specs.Matrix.{encode}
 use Rattle.coding.specs.Order.{order, fills, blanks}
 use Rattle.coding.specs.Tries.{tried}
-use Rattle.parity.proofs.ColumnLaws.{columns-long, columns-below}
+use Rattle.parity.proofs.CheckColumnLaws.{columns-long, columns-below}
 use Rattle.leaders.proofs.BuiltLaws.{filled-columns, tried-columns}
 use Rattle.leaders.proofs.build.build.Statement.{statement}
 use Rattle.leaders.proofs.build.build.Tie as tie

@@ -6,8 +6,8 @@ use lib.ListN.{length-replicate}
 use borrow.Author.Needs.{needs}
 use Rattle.coding.specs.Lists.{zeros}
 use Rattle.coding.proofs.LoopLaws.{Over, over, over-start, over-step}
-use Rattle.parity.specs.Columns.{columnsOf}
-use Rattle.parity.proofs.ColumnLaws.{columns-long, columns-column, columns-filled}
+use Rattle.parity.specs.CheckColumns.{columnsOf}
+use Rattle.parity.proofs.CheckColumnLaws.{columns-long, columns-column, columns-filled}
 use Rattle.parity.proofs.check.column_list.Statement.{statement}
 use Rattle.parity.proofs.check.column_list.Tie as tie
 

@@ -4,8 +4,8 @@ use native.Mathlib.Omega.{arith}
 use lib.ListN.{length, take}
 use lib.Seq.{length-take-le}
 use borrow.Author.Needs.{needs}
-use Rattle.parity.specs.Columns.{columnsOf}
-use Rattle.parity.proofs.ColumnLaws.{take-most}
+use Rattle.parity.specs.CheckColumns.{columnsOf}
+use Rattle.parity.proofs.CheckColumnLaws.{take-most}
 use Rattle.parity.proofs.check.first_columns.Statement.{statement}
 use Rattle.parity.proofs.check.first_columns.Tie as tie
 

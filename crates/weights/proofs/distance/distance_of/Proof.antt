@@ -76,4 +76,5 @@ pub distance-of-spec : {M : Type 1} → statement M
 distance-of-spec =
     tie.close
     (tie.spec (λ c κs. search needs) (λ c. search needs) (λ c. search needs) returns (λ c. enough (c .before))
-    (λ c. sym (ap length (first-are (c .before .before)) ∙ size (c .before .before))) (λ c κs. rw (first-are (c .before .before)) (matrix (c .before .before))) returns-2)
+    (λ c. sym (ap length (first-are (c .before .before)) ∙ size (c .before .before)))
+    (λ c κs. rw (first-are (c .before .before)) (matrix (c .before .before))) returns-2)

@@ -73,6 +73,8 @@ returns c =
 pub sums-by-tables-spec : {M : Type 1} → statement M
 sums-by-tables-spec =
     tie.close
-    (tie.spec Inv-loop μ-loop (λ c κs. search needs) loop-holds (λ c. omega (arith, start (c .before) .pre .0, c .loop-test .taken)) (λ c κs. search needs) mul-from
-    (λ c. omega (arith, ends c)) (λ c. omega (arith, ends c)) (λ c. omega (arith, ends c)) (λ c. sym (c .before .before .before .before .loop .inv .1)) (λ c κs. search needs) add-requires loop-less loop-again
+    (tie.spec Inv-loop μ-loop (λ c κs. search needs) loop-holds
+    (λ c. omega (arith, start (c .before) .pre .0, c .loop-test .taken)) (λ c κs. search needs) mul-from (λ c. omega (arith, ends c))
+    (λ c. omega (arith, ends c)) (λ c. omega (arith, ends c)) (λ c. sym (c .before .before .before .before .loop .inv .1))
+    (λ c κs. search needs) add-requires loop-less loop-again
     (λ c. ap length (c .before .loop .inv .2) ∙ length-map (start (c .before) .args .words .now) _ ∙ start (c .before) .pre .1) returns)

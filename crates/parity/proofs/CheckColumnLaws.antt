@@ -24,7 +24,7 @@ use Rattle.coding.proofs.LinearLaws.{syndrome-columns}
 use Rattle.words.specs.Limits.{maxChecks}
 use Rattle.words.specs.Accepted.{Accepted}
 use Rattle.words.proofs.CodeLaws.{checks-pad, syndrome-below}
-use Rattle.parity.specs.Columns.{columnsOf}
+use Rattle.parity.specs.CheckColumns.{columnsOf}
 
 -- a column is the syndrome of the word with a one at its place alone
 column-syndrome : (hs : List ℕ) (p : ℕ) → column hs p ≡ syndrome hs (2 ^ p)
@@ -70,7 +70,8 @@ columns-inside n hs c f p h = go (decLe (suc p) n)
 pub columns-filled : (n : ℕ) (hs : List ℕ) (end : ℕ) → end ≡ min n 32 → over (columnsOf n hs) (zeros 32) end ≡ columnsOf n hs
 columns-filled n hs end e =
     ap (λ (l : List ℕ). take end (columnsOf n hs) ++ l)
-    (ext-getD 0 (drop end (zeros 32)) (drop end (columnsOf n hs)) long (λ i h. at i (omega (arith, h, length-drop end (zeros 32), length-replicate {A = ℕ} 32 0))))
+    (ext-getD 0 (drop end (zeros 32)) (drop end (columnsOf n hs)) long
+    (λ i h. at i (omega (arith, h, length-drop end (zeros 32), length-replicate {A = ℕ} 32 0))))
     ∙ take-append-drop end (columnsOf n hs)
   where
     long : length (drop end (zeros 32)) ≡ length (drop end (columnsOf n hs))
