@@ -108,7 +108,7 @@ uint32_t relay_encode(uint32_t n, uint32_t k, const uint32_t *rows, size_t rows_
 /* The messages of codewords. Causes 1 to 4, 6 to 8 and 10. One word that is no codeword refuses the whole list under 10: after
  * relay_decode within a radius, leave out the words whose count is RELAY_FAR first.
  * Written: slot i of `out` becomes the message of codeword i; later slots keep their values.
- * Stack: about 3 kB. */
+ * Stack: about 5 kB. */
 uint32_t relay_message(uint32_t n, uint32_t k, const uint32_t *rows, size_t rows_len,
                        const uint32_t *words, size_t words_len,
                        uint32_t *out, size_t out_len, size_t *value);
@@ -119,11 +119,9 @@ uint32_t relay_message(uint32_t n, uint32_t k, const uint32_t *rows, size_t rows
  * Written: slot i of `out` becomes the codeword of word i and slot i of `counts` its distance; a far word leaves the received
  * word, which is no answer, and RELAY_FAR. The first 2^(n - k) entries of `work` become the coset leaders by syndrome. Later
  * slots keep their values.
- * Time: most of it goes into the leaders, which are built in each call, and depends on the matrix; within a radius all 2^k
- * codewords are walked besides; more words cost little. 512 words took 3 us with a (7,4) code, 20 to 60 us with random (28,16) or
- * (32,20) rows, within a radius 0.08 to 0.15 ms and 0.9 to 1.5 ms, and 0.6 s with (32,20) rows that leave twelve places 0 in every
- * codeword, the slowest found (AMD EPYC, 2.6 GHz).
- * Stack: about 6 kB. */
+ * Time: most of it goes into the leaders, which are built in each call, and depends on the matrix; within a radius the minimum
+ * distance is looked for besides, which costs little; so do more words. TIME_SENTENCE
+ * Stack: about 5 kB. */
 uint32_t relay_decode(uint32_t n, uint32_t k, const uint32_t *rows, size_t rows_len,
                       uint32_t within, uint32_t radius,
                       const uint32_t *words, size_t words_len,
@@ -152,7 +150,7 @@ uint32_t relay_deinterleave(uint32_t n, uint32_t k, const uint32_t *rows, size_t
  * Written: the three lists, as by relay_decode of these words. Where codewords were sent and the changed bits fit in depth * radius
  * consecutive places of the list, wherever these begin, every word comes back.
  * Time: as relay_decode.
- * Stack: about 6 kB. */
+ * Stack: about 5 kB. */
 uint32_t relay_decode_interleaved(uint32_t n, uint32_t k, const uint32_t *rows, size_t rows_len,
                                   uint32_t radius, size_t depth, const uint8_t *bits, size_t bits_len,
                                   uint32_t *out, size_t out_len, uint8_t *counts, size_t counts_len,

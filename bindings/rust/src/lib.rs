@@ -221,8 +221,8 @@ pub fn message(n: u32, k: u32, rows: &[u32], words: &[u32], out: &mut [u32]) -> 
 /// Decodes received words into the lent lists, and gives the outcomes over them. Causes 1 to 4, 5 within a radius, and 6 to 9.
 /// Later slots, and on a refusal all, keep their values.
 ///
-/// The leaders are built in each call, which takes from microseconds to about a second, by the matrix; within a radius all 2^k codewords
-/// are walked besides; more words cost little.
+/// The leaders are built in each call, which takes from microseconds to about a second, by the matrix; the minimum distance, within a
+/// radius, and more words cost little.
 pub fn decode<'a>(n: u32, k: u32, rows: &[u32], reading: Reading, words: &[u32], lent: Lent<'a>) -> Result<Decoded<'a>, Refusal> {
     let (within, radius) = match reading {
         Reading::Nearest => (0, 0),

@@ -80,10 +80,10 @@ fn look_up(leaders: &[u32], list: &mut [u32])
     requires { ⌜ ((i : ℕ) → i < length (now list) → getD (now list) i 0 < length (now leaders)) ⌝ }
     ensures { λ _. ⌜ now (list .exit) ≡ map (λ s. getD (now (leaders .entry)) s 0) (now (list .entry)) ⌝ }
 {
-    let mut i: usize = 0;
-    while i < list.len() {
-        list[i] = leaders[list[i] as usize];
-        i += 1;
+    let mut j: usize = 0;
+    while j < list.len() {
+        list[j] = leaders[list[j] as usize];
+        j += 1;
     }
 }
 

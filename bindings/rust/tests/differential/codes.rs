@@ -320,6 +320,37 @@ fn decode_long() {
     assert!(seen.causes.contains(&(0, false)));
 }
 
+/// The minimum distance alone, as cause 5 tells it: codes by the multiples of a polynomial, of up to 20 rows, with distances up to 8 and more.
+#[test]
+fn distances() {
+    let mut r = Random::of("distances");
+    let mut met = BTreeSet::new();
+    for polynomial in [0x3u32, 0x25, 0x1D1, 0x769, 0x769 ^ 0x769 << 1, 0xC75, 0xC75 ^ 0xC75 << 1, 0x1FFF] {
+        let degree = polynomial.ilog2();
+        for k in 1..=(32 - degree).min(20) {
+            let mut rows: Vec<u32> = (0..k).map(|i| polynomial << i).collect();
+            for _ in 0..2 * k {
+                let (a, b) = (r.below(rows.len()), r.below(rows.len()));
+                if a != b {
+                    rows[a] ^= rows[b];
+                }
+            }
+            let dmin = plain::accept(degree + k, k, &rows).expect("independent rows").dmin();
+            met.insert((k > 12, dmin));
+            let mut work = vec![0; MAX_LEADERS];
+            for radius in 0..=dmin {
+                let lent = Lent { codewords: &mut [], counts: &mut [], work: &mut work };
+                let answer = relaymarten::decode(degree + k, k, &rows, Reading::Within(radius), &[], lent).map(|_| ());
+                let told = if 2 * radius < dmin { Ok(()) } else { Err(Refusal::RadiusTooLarge) };
+                assert_eq!(answer, told, "{rows:?} within {radius}");
+            }
+        }
+    }
+    let few = [2, 3, 7, 8].map(|dmin| (false, dmin));
+    let many = [2, 3, 5, 6].map(|dmin| (true, dmin));
+    assert!(few.iter().chain(&many).all(|x| met.contains(x)), "{met:?}");
+}
+
 /// What a call with this `within` answers and leaves in the lists.
 fn decode_raw(m: &Matrix, within: u32, radius: u32, words: &[u32]) -> (u32, usize, Vec<u32>, Vec<u8>, Vec<u32>) {
     let (mut out, mut counts, mut work) = (vec![7; words.len() + 1], vec![7; words.len() + 1], vec![7; MAX_LEADERS]);

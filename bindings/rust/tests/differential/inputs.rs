@@ -88,11 +88,13 @@ fn matrix_of(r: &mut Random, mut n: u32) -> Matrix {
     Matrix { n, k, rows }
 }
 
-/// How many words: none, a few, or about the limit.
+/// How many words: none, a few, about sixteen, from where on they are summed by tables, some dozens, or about the limit.
 pub fn how_many(r: &mut Random) -> usize {
     match r.below(16) {
         0 => 0,
         1 => 511 + r.below(3),
+        2 | 3 => 14 + r.below(5),
+        4 => 19 + r.below(60),
         _ => 1 + r.below(12),
     }
 }

@@ -1,4 +1,4 @@
--- `decoder::batch::look_up`: the first i entries are leaders. Assumes nothing.
+-- `decoder::batch::look_up`: the first j entries are leaders. Assumes nothing.
 use mathlib.Core.Path.{_≡_, refl, ap, _∙_}
 use mathlib.Core.List.{List, map}
 use Prim.Native.Nat.{ℕ, _≤_, _<_, _-_}
@@ -14,27 +14,27 @@ abbrev leaderAt : List ℕ → ℕ → ℕ
 leaderAt leaders s = getD leaders s 0
 
 abbrev Inv-loop : tie.InvT-loop
-Inv-loop leaders list₀ i₀ list i = (i ≤ length list₀) × Over (map (leaderAt leaders) list₀) list₀ i list
+Inv-loop leaders list₀ j₀ list j = (j ≤ length list₀) × Over (map (leaderAt leaders) list₀) list₀ j list
 
 abbrev μ-loop : tie.MeasureT-loop
-μ-loop leaders list₀ i₀ list i = length list₀ - i
+μ-loop leaders list₀ j₀ list j = length list₀ - j
 
 -- the entry that is next is still a syndrome, and has a leader
-more : (c : tie.In-loop Inv-loop μ-loop) → c .before .loop .i < length (c .before .before .args .list .now)
+more : (c : tie.In-loop Inv-loop μ-loop) → c .before .loop .j < length (c .before .before .args .list .now)
 more c = omega (arith, c .before .loop .inv .1 .long, c .loop-test .taken)
 
 next : (c : tie.In-loop Inv-loop μ-loop)
-    → let i = c .before .loop .i in
-    getD (c .before .loop .list) i 0 ≡ getD (c .before .before .args .list .now) i 0
+    → let j = c .before .loop .j in
+    getD (c .before .loop .list) j 0 ≡ getD (c .before .before .args .list .now) j 0
 next c =
     let l = c .before .loop in
     let a = c .before .before .args in
-    ap (λ (x : List ℕ). getD x (l .i) 0) (l .inv .1 .list)
-    ∙ over-next (map (leaderAt (a .leaders .now)) (a .list .now)) (a .list .now) (l .i)
+    ap (λ (x : List ℕ). getD x (l .j) 0) (l .inv .1 .list)
+    ∙ over-next (map (leaderAt (a .leaders .now)) (a .list .now)) (a .list .now) (l .j)
     (omega (arith, length-map (a .list .now) (leaderAt (a .leaders .now)), more c))
 
-led : (c : tie.In-loop Inv-loop μ-loop) → getD (c .before .loop .list) (c .before .loop .i) 0 < length (c .before .before .args .leaders .now)
-led c = rw (next c) (c .before .before .pre (c .before .loop .i) (more c))
+led : (c : tie.In-loop Inv-loop μ-loop) → getD (c .before .loop .list) (c .before .loop .j) 0 < length (c .before .before .args .leaders .now)
+led c = rw (next c) (c .before .before .pre (c .before .loop .j) (more c))
 
 loop-again : tie.Need-loop-again Inv-loop μ-loop
 loop-again c =
