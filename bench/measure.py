@@ -13,8 +13,10 @@ import sys
 from sheets import sheets
 
 BUILDS = ["call", "inline", "popcnt"]
-GOALS = [("(72,64)", "(72,64) decode", 1.25), ("Widths", "word of 16 or 32 data bits", 1.15), ("Golay", "Golay decode", 1.1),
+GOALS = [("(72,64)", "(72,64) decode", 1.25), ("Widths", "word of 16 or 32 data bits", 1.15), ("Golay", "Golay decode", 1.05),
          ("Leaders", "leaders", 1.15), ("Sheets of 512 words", "sheet", 1.3)]
+# Against this C the goal of its section is another.
+OTHER_GOALS = {"twelve tests side by side": 1.1}
 # Of a word that is decoded, once the leaders stand.
 WORDS_SECTION, WORD_INSTRUCTIONS = "Words, perfect (23,12)", 35
 # Of a bit that is interleaved or deinterleaved; and the decode after it, beside these, by a decode of the same words.
@@ -118,7 +120,7 @@ def goal_rows(title, goal, results):
                 if ratio is not None:
                     found[r.case.plain, build if r.case.matters else ""].append((ratio, r.case.name))
     for (plain, build), ratios in found.items():
-        yield goal_row(title, goal, plain, build, ratios)
+        yield goal_row(title, OTHER_GOALS.get(plain, goal), plain, build, ratios)
 
 
 def interleaving_rows(results):

@@ -11,10 +11,13 @@ WORDS = 512
 FEW_TRIES = 25354
 
 
+def field(tag, numbers):
+    return bytes([tag]) + (4 * len(numbers)).to_bytes(2, "big") + b"".join(x.to_bytes(4, "little") for x in numbers)
+
+
 def content(n, rows, rng):
     words = [rng.getrandbits(n) for _ in range(WORDS)]
-    numbers = lambda tag, list_: bytes([tag]) + (4 * len(list_)).to_bytes(2, "big") + b"".join(x.to_bytes(4, "little") for x in list_)
-    return bytes([1, 0, 1, n, 2, 0, 1, len(rows)]) + numbers(3, rows) + numbers(5, words)
+    return bytes([1, 0, 1, n, 2, 0, 1, len(rows)]) + field(3, rows) + field(5, words)
 
 
 def hamming(checks, n):
@@ -58,8 +61,8 @@ def tries(n, rows, most):
     left, tried = 2 ** len(frees) - 1, 1
     met = {0}
     for t in itertools.count(1):
-        # of one weight by rising number: the highest place first in the comparison
-        for places in sorted(itertools.combinations(range(n - 1, -1, -1), t), key=lambda c: c):
+        # of one weight by rising number, since the highest place stands first
+        for places in sorted(itertools.combinations(range(n - 1, -1, -1), t)):
             tried += 1
             s = 0
             for p in places:

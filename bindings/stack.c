@@ -1,7 +1,7 @@
 /* How much stack each call of the library takes: in a thread of its own the stack is filled with a mark, the call is made, and
  * what lost the mark is counted, for two codes, of which the larger figure is taken. Prints a line for each call; exit status 1 where
- * one takes more than relaymarten.h states, or less than half of it. The statements are the second column of `calls`; bindings/check compares them with the header. Link with
- * -pthread -Wl,-z,now, so that no call of the C library is bound while it is measured. */
+ * one takes more than relaymarten.h states, or less than half of it. The statements are the second column of `calls`; bindings/check
+ * compares them with the header. Link with -pthread -Wl,-z,now, so that no call of the C library is bound while it is measured. */
 #define _GNU_SOURCE
 #include "relaymarten.h"
 #include <pthread.h>
