@@ -4,12 +4,11 @@ use mathlib.Core.Path.{_≡_, refl, sym, ap, ap₂, _∙_}
 use mathlib.Core.Logic.{_≢_}
 use mathlib.Core.List.{List, [], _∷_, map}
 use Prim.Native.Nat.{ℕ, zero, suc, _+_, _*_, _/_, _%_, _^_, _<_, _≤_, _-_, min, suc-le-suc}
-use native.Mathlib.Nat.{le-refl, pow-suc, suc-ne-zero, suc-inj, add-zero, add-suc, suc-add, lt-of-lt-of-le, le-of-suc-le-suc, mod-eq-of-lt}
-use native.Mathlib.Numerals.{add-one}
+use native.Mathlib.Nat.{le-refl, pow-suc, suc-ne-zero, suc-inj, add-zero, add-suc, suc-add, lt-of-lt-of-le, le-of-suc-le-suc}
 use native.Mathlib.Omega.{arith}
-use lib.ListN.{length, getD, take, drop, length-drop}
+use lib.ListN.{length, getD, drop, length-drop}
 use lib.Seq.{drop-cons}
-use lib.Pow.{pow-pos, pow-mono, mod-pow-add}
+use lib.Pow.{pow-mono}
 use Rattle.coding.specs.Word.{_⊕_, bit, parity}
 use Rattle.coding.specs.Matrix.{sel, encode}
 use Rattle.coding.specs.Reduce.{rest, freesFrom}
@@ -70,15 +69,6 @@ places-lt digit f (x ∷ l) = omega (arith, places-lt digit f l, f x, pow-suc 2 
 
 pub syndrome-lt : (hs : List ℕ) (w : ℕ) → syndrome hs w < 2 ^ length hs
 syndrome-lt hs w = places-lt (parity w) (parity-lt w) hs
-
--- the first c check rows give the first c places
-pub syndrome-take : (hs : List ℕ) (c w : ℕ) → syndrome hs w % 2 ^ c ≡ syndrome (take c hs) w
-syndrome-take hs zero w = omega arith
-syndrome-take [] (suc c) w = mod-eq-of-lt (pow-pos (suc c))
-syndrome-take (h ∷ hs) (suc c) w =
-    ap (λ (m : ℕ). syndrome (h ∷ hs) w % 2 ^ m) (sym (add-one c)) ∙ mod-pow-add (syndrome (h ∷ hs) w) c 1
-    ∙ ap (λ (x : ℕ). x % 2 ^ c * 2 + syndrome (h ∷ hs) w % 2) (cons-half (parity w h) (syndrome hs w) (parity-lt w h))
-    ∙ omega (arith, cons-odd (parity w h) (syndrome hs w) (parity-lt w h), syndrome-take hs c w)
 
 -- a sum of two words, by their lowest places and the rest
 cons-xor : (p q s t : ℕ) → p < 2 → q < 2 → (p + 2 * s) ⊕ (q + 2 * t) ≡ (p + q) % 2 + 2 * (s ⊕ t)

@@ -6,11 +6,10 @@ use Prim.Native.Nat.{ℕ, _-_, _^_, _≤_, _<_}
 use native.Mathlib.Omega.{arith}
 use lib.ListN.{length, getD, take, drop, length-append}
 use lib.Seq.{take-at}
-use Rattle.coding.specs.Lists.{padded}
-use Rattle.coding.specs.Matrix.{encode, Inside}
-use Rattle.coding.specs.Check.{checks}
+use Rattle.coding.specs.Matrix.{Inside}
+use Rattle.coding.specs.Check.{checks, syndrome}
 use Rattle.coding.specs.Weight.{dmin}
-use Rattle.words.specs.Limits.{maxChecks, width}
+use Rattle.words.specs.Limits.{width}
 use Rattle.words.specs.Accepted.{Accepted}
 use Rattle.words.specs.declared.answer.Refusal.{Refusal}
 use Rattle.words.specs.declared.answer.Answer.{Answer}
@@ -18,8 +17,6 @@ use Rattle.words.specs.declared.answer.Answer.the-variants.{Done, Refused}
 use Rattle.words.proofs.AnswerLaws.{refused-done, never, never-done, kept, filled, written}
 use Rattle.words.proofs.AcceptedLaws.{accepted-in}
 use Rattle.words.proofs.CodeLaws.{distance-is, syndrome-below, leader-at}
-use Rattle.parity.specs.CheckColumns.{columnsOf}
-use Rattle.parity.proofs.CheckColumnLaws.{columns-syndrome}
 use Rattle.leaders.specs.Leaders.{leadersList}
 use Rattle.leaders.proofs.BuiltLaws.{leaders-long}
 use Rattle.leaders.proofs.LeaderPromiseLaws.{leader-slot}
@@ -96,7 +93,7 @@ module _ (B : Batch) (L : Lent) (b : answerTo B L ≡ Done) where
 
   -- ---- the leaders stand in the working list
 
-  module _ (cols work : List ℕ) (size : ℕ) (are : cols ≡ take (B .n) (columnsOf (B .n) (take (B .n - B .k) (padded maxChecks (checks (B .n) (B .rows))))))
+  module _ (hs work : List ℕ) (size : ℕ) (are : hs ≡ checks (B .n) (B .rows))
       (ew : work ≡ leadersList (B .n) (B .k) (B .rows) ++ drop (2 ^ (B .n - B .k)) (L .work)) (z : size ≡ 2 ^ (B .n - B .k)) where
     leaders-size : length (leadersList (B .n) (B .k) (B .rows)) ≡ size
     leaders-size = leaders-long (B .n) (B .k) (B .rows) A ∙ sym z
@@ -110,21 +107,18 @@ module _ (B : Batch) (L : Lent) (b : answerTo B L ≡ Done) where
     pub work-long : size ≤ length work
     work-long = omega (arith, ap length ew ∙ length-append (leadersList (B .n) (B .k) (B .rows)) _, leaders-size)
 
-    pub syndromes-fit : (i : ℕ) → i < length (B .words) → encode cols (getD (B .words) i 0) < length (take size work)
-    syndromes-fit i h =
-        let w = getD (B .words) i 0 in
-        rw (lent-long, z, are, columns-syndrome (B .n) (B .k) (B .rows) A w (passed .listed .inside i h)) (syndrome-below (B .n) (B .k) (B .rows) A w)
+    pub syndromes-fit : (i : ℕ) → i < length (B .words) → syndrome hs (getD (B .words) i 0) < length (take size work)
+    syndromes-fit i h = rw (lent-long, z, are) (syndrome-below (B .n) (B .k) (B .rows) A (getD (B .words) i 0))
 
     -- the lists written are those of the definitions
     pub decode-ends : (out counts : List ℕ)
-        → out ≡ map (wordBy (B .reading) (take size work) cols) (B .words) ++ drop (length (B .words)) (L .codewords)
-        → counts ≡ map (countBy (B .reading) (take size work) cols) (B .words) ++ drop (length (B .words)) (L .counts)
+        → out ≡ map (wordBy (B .reading) (take size work) hs) (B .words) ++ drop (length (B .words)) (L .codewords)
+        → counts ≡ map (countBy (B .reading) (take size work) hs) (B .words) ++ drop (length (B .words)) (L .counts)
         → Decoded B L Done (record { codewords = out; counts = counts; work = work })
     decode-ends out counts eo ec =
-        let inside = passed .listed .inside in
         decode-done _
         (eo ∙ ap (λ (x : List ℕ). x ++ drop (length (B .words)) (L .codewords))
-        (words-are (B .n) (B .k) (B .rows) A (B .reading) (take size work) cols leaders-lent are (B .words) inside))
+        (words-are (B .n) (B .k) (B .rows) A (B .reading) (take size work) hs leaders-lent are (B .words)))
         (ec ∙ ap (λ (x : List ℕ). x ++ drop (length (B .words)) (L .counts))
-        (counts-are (B .n) (B .k) (B .rows) A (B .reading) (take size work) cols leaders-lent are (B .words) inside))
+        (counts-are (B .n) (B .k) (B .rows) A (B .reading) (take size work) hs leaders-lent are (B .words)))
         ew

@@ -5,16 +5,16 @@ use outcomes::Reading;
 use outcomes::count_in;
 use outcomes::outcome_of;
 use outcomes::word_in;
-use parity::columns;
+use parity::syndromes;
 use words::answer::Answer;
 use words::answer::Refusal;
-use words::sums::row_sums;
+use words::limits::MAX_CHECKS;
 ghost use mathlib.Core.Path.{_≡_};
 ghost use mathlib.Core.Bool.{true};
 ghost use mathlib.Core.List.{map, _++_};
 ghost use Prim.Native.Nat.{ℕ, _≤_, _<_};
-ghost use lib.ListN.{length, getD, drop};
-ghost use Rattle.coding.specs.Matrix.{encode};
+ghost use lib.ListN.{length, getD, take, drop};
+ghost use Rattle.coding.specs.Check.{syndrome};
 ghost use Rattle.coding.specs.Weight.{dmin};
 ghost use Rattle.words.specs.Refusal.{ifDone};
 ghost use Rattle.decoder.specs.Decoded.{Decoded};
@@ -120,10 +120,11 @@ fn answer_words(
     correct(reading, words, out, counts);
 }
 
-// Each word is decoded with the leader of its syndrome; the later slots keep their values. The syndromes stand in the list of the
-// codewords first.
+// Each word is decoded with the leader of its syndrome by the first c check rows; the later slots keep their values. The syndromes stand in
+// the list of the codewords first.
 fn decode_words(
-    columns: &[u32],
+    checks: &[u32; MAX_CHECKS],
+    c: usize,
     reading: Reading,
     words: &[u32],
     leaders: &[u32],
@@ -131,16 +132,16 @@ fn decode_words(
     counts: &mut [u8],
 )
     requires { ⌜ (length (now words) ≤ length (now out)) × (length (now words) ≤ length (now counts)) ⌝ }
-    requires { ⌜ ((i : ℕ) → i < length (now words) → encode (now columns) (getD (now words) i 0) < length (now leaders)) ⌝ }
+    requires { ⌜ ((i : ℕ) → i < length (now words) → syndrome (take c (now checks)) (getD (now words) i 0) < length (now leaders)) ⌝ }
     ensures { λ _. ⌜ now (out .exit)
-        ≡ map (wordBy reading (now (leaders .entry)) (now (columns .entry))) (now (words .entry))
+        ≡ map (wordBy reading (now (leaders .entry)) (take c (now (checks .entry)))) (now (words .entry))
         ++ drop (length (now (words .entry))) (now (out .entry)) ⌝ }
     ensures { λ _. ⌜ now (counts .exit)
-        ≡ map (countBy reading (now (leaders .entry)) (now (columns .entry))) (now (words .entry))
+        ≡ map (countBy reading (now (leaders .entry)) (take c (now (checks .entry)))) (now (words .entry))
         ++ drop (length (now (words .entry))) (now (counts .entry)) ⌝ }
 {
     let m = words.len();
-    row_sums(columns, words, out);
+    syndromes(checks, c, words, out);
     answer_words(reading, words, leaders, &mut out[..m], &mut counts[..m]);
 }
 
@@ -173,9 +174,9 @@ fn decode_by(
         return unmeasured(Answer::Refused(Refusal::ShortWork));
     }
     let size = 1usize << (n - k);
-    let cols = columns(&checks, n as usize, (n - k) as usize);
     decode_words(
-        &cols[..n as usize],
+        &checks,
+        (n - k) as usize,
         reading,
         words,
         &work[..size],

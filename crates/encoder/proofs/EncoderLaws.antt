@@ -8,17 +8,19 @@ use native.Mathlib.Omega.{arith}
 use lib.Dec.{eqb}
 use lib.ListN.{length, getD}
 use borrow.Author.Tests.{eq-eqb, ne-eqb, not-false}
-use Rattle.coding.specs.Lists.{first, padded}
+use Rattle.coding.specs.Lists.{first}
 use Rattle.coding.specs.Matrix.{encode, Codeword, Inside, messageOf, isCodeword}
 use Rattle.coding.specs.Reduce.{reduce}
 use Rattle.coding.specs.Reduced.{Traced}
 use Rattle.coding.specs.Check.{checks, syndrome}
+use Rattle.coding.specs.Leader.{syndromeOf}
 use Rattle.coding.proofs.ListLaws.{map-same}
 use Rattle.coding.proofs.SearchLaws.{first-same, first-before, codeword-test, true-false}
 use Rattle.coding.proofs.CheckLaws.{encode-place}
+use Rattle.coding.proofs.CheckRowLaws.{syndrome-codeword}
 use Rattle.coding.proofs.TraceLaws.{message-trace, trace-message}
 use Rattle.coding.proofs.WidthLaws.{inside-wide}
-use Rattle.words.specs.Limits.{maxChecks, width}
+use Rattle.words.specs.Limits.{width}
 use Rattle.words.specs.Refusal.{andThen, onDone}
 use Rattle.words.specs.Lists.{listAnswer}
 use Rattle.words.specs.declared.answer.Refusal.the-variants.{NoCodeword}
@@ -28,22 +30,22 @@ use Rattle.words.proofs.WordListLaws.{list-in, list-passes}
 use Rattle.words.proofs.AnswerLaws.{goes, Numbered, Neither, neither, unless-numbered, andThen-numbered, never}
 use Rattle.words.specs.Accepted.{matrixAnswer, Accepted}
 use Rattle.words.proofs.AcceptedLaws.{accepted-in, matrix-passes}
-use Rattle.words.proofs.CodeLaws.{one-is, back-is, codeword-syndrome}
+use Rattle.words.proofs.CodeLaws.{one-is, back-is}
 use Rattle.encoder.specs.Encoded.{encodeAnswer, Encoded}
 use Rattle.encoder.specs.MessagesRead.{other, messageAnswer, MessagesRead}
 
 module _ (n k : ℕ) (rows : List ℕ) (A : Accepted n k rows) where
   -- so the first word whose syndrome is not 0 is the first that is no codeword
   pub other-is : (words : List ℕ) → Inside n words
-      → first (λ i. not (eqb (syndrome (padded maxChecks (checks n rows)) (getD words i 0)) 0)) (length words) ≡ first (other rows words) (length words)
+      → first (λ i. not (eqb (syndromeOf n rows (getD words i 0)) 0)) (length words) ≡ first (other rows words) (length words)
   other-is words f = first-same _ _ (length words) (λ i h. ap not (same (getD words i 0) (f i h)))
     where
-      same : (w : ℕ) → w < 2 ^ n → eqb (syndrome (padded maxChecks (checks n rows)) w) 0 ≡ isCodeword rows w
+      same : (w : ℕ) → w < 2 ^ n → eqb (syndromeOf n rows w) 0 ≡ isCodeword rows w
       same w h = go (isCodeword rows w) refl
         where
-          go : (b : Bool) → isCodeword rows w ≡ b → eqb (syndrome (padded maxChecks (checks n rows)) w) 0 ≡ b
-          go true e = eq-eqb _ 0 (codeword-syndrome n k rows A w h .1 (codeword-test rows w .0 e))
-          go false e = ne-eqb _ 0 (λ z. true-false (codeword-test rows w .1 (codeword-syndrome n k rows A w h .0 z)) e)
+          go : (b : Bool) → isCodeword rows w ≡ b → eqb (syndromeOf n rows w) 0 ≡ b
+          go true e = eq-eqb _ 0 (syndrome-codeword n rows (A .inside) w h .1 (codeword-test rows w .0 e))
+          go false e = ne-eqb _ 0 (λ z. true-false (codeword-test rows w .1 (syndrome-codeword n rows (A .inside) w h .0 z)) e)
 
   -- the messages beside the reduced rows read each codeword back
   pub messages-are : (M : List ℕ) → Traced rows M (reduce 32 rows) → (words : List ℕ) → first (other rows words) (length words) ≡ length words
@@ -90,7 +92,7 @@ module _ (n k : ℕ) (rows words : List ℕ) (slots : ℕ) (m : matrixAnswer n k
   pub past : (last : Answer) → last ≡ andThen (matrixAnswer n k rows) (andThen (listAnswer words n slots) last)
   past last = goes (listAnswer words n slots) last l ∙ goes (matrixAnswer n k rows) (andThen (listAnswer words n slots) last) m
 
-  pub other-found : (cs : List ℕ) (bad : ℕ) → cs ≡ padded maxChecks (checks n rows)
+  pub other-found : (cs : List ℕ) (bad : ℕ) → cs ≡ checks n rows
       → bad ≡ first (λ i. not (eqb (syndrome cs (getD words i 0)) 0)) (length words) → bad ≡ first (other rows words) (length words)
   other-found cs bad e f =
       f ∙ ap (λ (h : List ℕ). first (λ i. not (eqb (syndrome h (getD words i 0)) 0)) (length words)) e

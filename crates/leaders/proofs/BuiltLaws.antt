@@ -1,16 +1,15 @@
 -- Laws of the list that is built: by any check rows the words fill it as their syndromes say, and by those of an accepted matrix it holds
 -- the leader of every syndrome, and the number of words tried is the place of the last. Assumes nothing.
-use mathlib.Core.Path.{_≡_, sym, ap, _∙_}
+use mathlib.Core.Path.{_≡_, refl, sym, ap, _∙_}
 use mathlib.Core.List.{List}
 use Prim.Native.Nat.{ℕ, suc, _-_, _^_, _≤_, _<_}
 use native.Mathlib.Omega.{arith}
-use lib.ListN.{length, getD, take, length-map, length-replicate}
-use lib.Seq.{ext-getD, take-at}
+use lib.ListN.{length, getD, take, length-replicate}
+use lib.Seq.{ext-getD}
 use lib.Pow.{pow-pos}
 use Rattle.coding.specs.Lists.{padded}
 use Rattle.coding.specs.Matrix.{encode}
-use Rattle.coding.specs.Reduce.{reduce}
-use Rattle.coding.specs.Check.{check, checks, frees, syndrome}
+use Rattle.coding.specs.Check.{checks, frees, syndrome}
 use Rattle.coding.specs.Leader.{syndromeOf, noLeader, leaderOf}
 use Rattle.coding.specs.Order.{order, fills, blanks}
 use Rattle.coding.specs.Tries.{tried, LastLeader}
@@ -23,6 +22,7 @@ use Rattle.words.proofs.CodeLaws.{frees-are}
 use Rattle.parity.specs.CheckColumns.{columnsOf}
 use Rattle.leaders.specs.Leaders.{leadersList, leadersTried}
 use Rattle.leaders.specs.LeadersBy.{filledBy, triedBy}
+use Rattle.parity.proofs.CodeOfLaws.{first-checks}
 use Rattle.parity.proofs.CheckColumnLaws.{columns-encode}
 
 -- ---- by any check rows
@@ -54,7 +54,7 @@ module _ (n k : ℕ) (rows : List ℕ) (A : Accepted n k rows) where
 
   -- the check rows of the matrix are the first ones of the list
   rows-of : take (n - k) (padded maxChecks (checks n rows)) ≡ checks n rows
-  rows-of = take-at (checks n rows) _ (n - k) (length-map (frees n rows) (check (reduce n rows)) ∙ checks-are)
+  rows-of = first-checks n k rows A (padded maxChecks (checks n rows)) refl
 
   few : length (frees n rows) < 32
   few = rw checks-are (omega (arith, A .range .checks))

@@ -1,4 +1,5 @@
 // Part 2: parity-check rows and syndromes.
+use crate::batch::syndromes;
 use linear::reduce;
 use words::answer::Answer;
 use words::limits::MAX_CHECKS;
@@ -8,11 +9,10 @@ use words::lists::smaller;
 use words::word::parity;
 use words::word::place;
 ghost use mathlib.Core.Path.{_≡_};
-ghost use mathlib.Core.Bool.{true};
 ghost use mathlib.Core.List.{map};
-ghost use Prim.Native.Nat.{_-_, _≤_};
-ghost use lib.ListN.{length, take, drop};
-ghost use Rattle.coding.specs.Lists.{zeros, padded};
+ghost use Prim.Native.Nat.{_^_, _≤_};
+ghost use lib.ListN.{length, take};
+ghost use Rattle.coding.specs.Lists.{padded, tabulate};
 ghost use Rattle.coding.specs.Reduce.{freesFrom};
 ghost use Rattle.coding.specs.Check.{column, check, syndrome};
 ghost use Rattle.words.specs.Limits.{maxChecks, width};
@@ -38,35 +38,10 @@ fn parities(checks: &[u32], w: u32) -> u32
     s
 }
 
-// Whether every row from the fifth on is 0, as for a code with at most four check rows.
-fn few_rows(checks: &[u32]) -> bool
-    ensures { λ r. ⌜ (r ≡ true → drop 4 (now (checks .entry)) ≡ zeros (length (now (checks .entry)) - 4)) ⌝ }
-{
-    let mut j: usize = 4;
-    while j < checks.len() {
-        if checks[j] != 0 {
-            return false;
-        }
-        j += 1;
-    }
-    true
-}
-
-// The parities by the first four rows.
-fn first_parities(checks: &[u32], w: u32) -> u32
-    requires { ⌜ 4 ≤ length (now checks) ⌝ }
-    ensures { λ r. ⌜ r ≡ syndrome (take 4 (now (checks .entry))) w ⌝ }
-{
-    parities(&checks[..4], w)
-}
-
 // Bit j is the parity of the word's places where check row j has a 1; a row that is 0 has parity 0.
 pub fn syndrome(checks: &[u32; MAX_CHECKS], w: u32) -> u32
     ensures { λ r. ⌜ r ≡ syndrome (now (checks .entry)) w ⌝ }
 {
-    if few_rows(checks) {
-        return first_parities(checks, w);
-    }
     parities(checks, w)
 }
 
@@ -84,34 +59,28 @@ fn column(rows: &[u32], q: u32) -> u32
     c
 }
 
-// Entry p is the column of place p, for the first n places.
-fn column_list(rows: &[u32], n: usize) -> [u32; WIDTH]
-    requires { ⌜ length (now rows) ≤ width ⌝ }
-    ensures { λ r. ⌜ r ≡ columnsOf n (now (rows .entry)) ⌝ }
+// Entry p is the word with a one at place p alone.
+fn single_places() -> [u32; WIDTH]
+    ensures { λ r. ⌜ r ≡ tabulate (λ p. 2 ^ p) width ⌝ }
 {
-    let end = smaller(n, WIDTH);
-    let mut columns = [0u32; WIDTH];
+    let mut words = [0u32; WIDTH];
     let mut p: usize = 0;
-    while p < end {
-        columns[p] = column(rows, p as u32);
+    while p < WIDTH {
+        words[p] = 1u32 << p;
         p += 1;
     }
-    columns
-}
-
-fn first_columns(rows: &[u32], n: usize, c: usize) -> [u32; WIDTH]
-    requires { ⌜ length (now rows) ≤ width ⌝ }
-    ensures { λ r. ⌜ r ≡ columnsOf n (take c (now (rows .entry))) ⌝ }
-{
-    let m = smaller(c, rows.len());
-    column_list(&rows[..m], n)
+    words
 }
 
 // The columns of the first c check rows, of n places: entry p is the syndrome by these of the word with a one at place p alone.
 pub fn columns(checks: &[u32; MAX_CHECKS], n: usize, c: usize) -> [u32; WIDTH]
     ensures { λ r. ⌜ r ≡ columnsOf n (take c (now (checks .entry))) ⌝ }
 {
-    first_columns(checks, n, c)
+    let end = smaller(n, WIDTH);
+    let single = single_places();
+    let mut columns = [0u32; WIDTH];
+    syndromes(checks, c, &single, &mut columns[..end]);
+    columns
 }
 
 // The check rows of the places below n that are no pivot, in rising order.

@@ -9,7 +9,7 @@ ghost use lib.ListN.{length, take, drop};
 ghost use Rattle.coding.specs.Matrix.{encode};
 
 // From so many words on tables are worth their making.
-pub const MANY: usize = 16;
+const MANY: usize = 16;
 
 // The sum of the rows that the places of the message select.
 pub fn row_sum(rows: &[u32], message: u32) -> u32

@@ -3,7 +3,7 @@ use mathlib.Core.List.{List}
 use Prim.Native.Nat.{ℕ}
 use lib.ListN.{length, getD}
 use Rattle.coding.specs.Lists.{tabulate}
-use Rattle.coding.specs.Matrix.{encode}
+use Rattle.coding.specs.Check.{syndrome}
 use Rattle.outcomes.specs.Outcome.{outcomeOf, wordIn, countIn}
 use Rattle.outcomes.specs.declared.ending.Reading.{Reading}
 
@@ -14,9 +14,9 @@ wordsWith reading words leaders = tabulate (λ i. wordIn (outcomeOf reading (get
 abbrev pub countsWith : Reading → List ℕ → List ℕ → List ℕ
 countsWith reading words leaders = tabulate (λ i. countIn (outcomeOf reading (getD words i 0) (getD leaders i 0))) (length words)
 
--- the slots of a word, by a list of leaders and the columns that give its syndrome
+-- the slots of a word, by a list of leaders and the check rows that give its syndrome
 abbrev pub wordBy : Reading → List ℕ → List ℕ → ℕ → ℕ
-wordBy reading leaders cols w = wordIn (outcomeOf reading w (getD leaders (encode cols w) 0)) w
+wordBy reading leaders checks w = wordIn (outcomeOf reading w (getD leaders (syndrome checks w) 0)) w
 
 abbrev pub countBy : Reading → List ℕ → List ℕ → ℕ → ℕ
-countBy reading leaders cols w = countIn (outcomeOf reading w (getD leaders (encode cols w) 0))
+countBy reading leaders checks w = countIn (outcomeOf reading w (getD leaders (syndrome checks w) 0))

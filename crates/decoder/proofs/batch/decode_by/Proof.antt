@@ -4,7 +4,6 @@ use mathlib.Core.List.{List, _++_}
 use Prim.Native.Nat.{ℕ, _-_, _*_, _%_, _^_, _≤_, _<_}
 use native.Mathlib.Omega.{arith}
 use lib.ListN.{length, take, drop}
-use lib.Seq.{length-take-le}
 use borrow.Author.Needs.{needs}
 use Rattle.coding.specs.Lists.{padded}
 use Rattle.coding.specs.Matrix.{Inside}
@@ -14,8 +13,7 @@ use Rattle.words.specs.Limits.{maxChecks, width}
 use Rattle.words.specs.Accepted.{Accepted}
 use Rattle.words.specs.declared.answer.Answer.{Answer}
 use Rattle.words.specs.declared.answer.Answer.the-variants.{Done}
-use Rattle.parity.specs.CheckColumns.{columnsOf}
-use Rattle.parity.proofs.CheckColumnLaws.{columns-long}
+use Rattle.parity.proofs.CodeOfLaws.{first-checks}
 use Rattle.leaders.specs.Leaders.{workAnswer, leadersList}
 use Rattle.leaders.proofs.LeaderPromiseLaws.{work-short, work-done, list-kept, leaders-stand}
 use Rattle.decoder.specs.Decoded.{Batch, Lent}
@@ -125,58 +123,47 @@ work-is c =
     let a = begun (c .before) .args in
     leaders-stand (a .n) (a .k) (a .rows .now) (accepted t) (c .before .before .before .fill-leaders .ensures) (c .if1 .left) (rows-are c) .0
 
--- the columns are those of its check rows
-cols-are : (c : tie.After-columns)
-    → let a = begun (c .before .before .before) .args in
-    take (a .n) (c .columns .result) ≡ take (a .n) (columnsOf (a .n) (take (a .n - a .k) (padded maxChecks (checks (a .n) (a .rows .now)))))
-cols-are c =
-    let e = c .before .before in
-    let a = begun (e .before) .args in
-    ap (take (a .n)) (c .columns .ensures ∙ ap (λ (h : List ℕ). columnsOf (a .n) (take (a .n - a .k) h)) (rows-are e))
+-- its first n - k check rows are those of the definition
+hs-are : (c : tie.Else1)
+    → let a = begun (c .before) .args in
+    take (a .n - a .k) (passed (c .before) .before .before .known-past .result .checks) ≡ checks (a .n) (a .rows .now)
+hs-are c =
+    let t = passed (c .before) in
+    let a = begun (c .before) .args in
+    first-checks (a .n) (a .k) (a .rows .now) (accepted t) _ (rows-are c)
 
--- there is one for each place
-cols-long : (c : tie.After-columns) → begun (c .before .before .before) .args .n ≤ length (c .columns .result)
-cols-long c =
-    let e = c .before .before in
-    omega (arith, ap length (c .columns .ensures) ∙ columns-long _ _, accepted (passed (e .before)) .range .places)
-
-abbrev ready : tie.After-decode-words-arg3 → tie.After-columns
+abbrev ready : tie.After-decode-words-arg3 → tie.Else1
 ready c = c .before .before .before .before
 
 abbrev written : tie.After-slice-known6 → tie.After-decode-words
 written c = c .before .before .before .before
 
-slice-aggregate-decode-words : tie.Need-slice-aggregate-decode-words
-slice-aggregate-decode-words c = sym (length-take-le _ _ (cols-long (c .before)))
-
 slice-reshare-prefix-decode-words : tie.Need-slice-reshare-prefix-decode-words
 slice-reshare-prefix-decode-words c =
-    let e = c .before .before .before in
+    let e = c .before in
     let s = begun (e .before) in
-    work-long (batch s) (lent s) (done e) _ _ _ (cols-are (c .before)) (work-is e) (size-is e)
+    work-long (batch s) (lent s) (done e) _ _ _ (hs-are e) (work-is e) (size-is e)
 
-slice-aggregate-decode-words-2 : tie.Need-slice-aggregate-decode-words-2
-slice-aggregate-decode-words-2 c =
-    let k = c .before .before in
-    let e = k .before .before in
+slice-aggregate-decode-words : tie.Need-slice-aggregate-decode-words
+slice-aggregate-decode-words c =
+    let e = c .before .before in
     let s = begun (e .before) in
-    sym (lent-long (batch s) (lent s) (done e) _ _ _ (cols-are k) (work-is e) (size-is e))
+    sym (lent-long (batch s) (lent s) (done e) _ _ _ (hs-are e) (work-is e) (size-is e))
 
 decode-words-requires : tie.Need-decode-words-requires
 decode-words-requires c κs =
-    let k = ready c in
-    let e = k .before .before in
+    let e = ready c in
     let s = begun (e .before) in
-    (words-fit (batch s) (lent s) (done e), syndromes-fit (batch s) (lent s) (done e) _ _ _ (cols-are k) (work-is e) (size-is e))
+    (words-fit (batch s) (lent s) (done e), syndromes-fit (batch s) (lent s) (done e) _ _ _ (hs-are e) (work-is e) (size-is e))
 
 returns-3 : tie.Need-returns-3
 returns-3 c =
     let d = written c in
-    let k = ready (d .before) in
-    let e = k .before .before in
+    let e = ready (d .before) in
     let t = passed (e .before) in
     let s = begun (e .before) in (
-      decode-ends (batch s) (lent s) (done e) _ _ _ (cols-are k) (work-is e) (size-is e) _ _ (d .decode-words .ensures .0) (d .decode-words .ensures .1),
+      decode-ends (batch s) (lent s) (done e) _ _ _ (hs-are e) (work-is e) (size-is e) _ _ (d .decode-words .ensures .0)
+          (d .decode-words .ensures .1),
       λ h. t .before .before .known-past .ensures .distance h (t .enum-told .given .1),
     )
 
@@ -191,6 +178,5 @@ decode-by-spec =
     tie.close
     (tie.spec (λ c κs. search needs) (λ c. search needs) (λ c. search needs) (λ c κs. search needs) returns
     (λ c. omega (arith, accepted (c .before .before) .range .checks)) (λ c κs. search needs) (λ c κs. search needs) (λ c. search needs) returns-2
-    (λ c. checked c .0) (λ c. search needs) (λ c. checked c .1) (λ c. checked (c .before) .0) (λ c. search needs) (λ c κs. search needs) cols-long
-    slice-aggregate-decode-words slice-reshare-prefix-decode-words slice-aggregate-decode-words-2 decode-words-requires (λ c. search needs)
-    (λ c. search needs) (λ c. search needs) returns-3)
+    (λ c. checked c .0) (λ c. search needs) (λ c. checked c .1) (λ c. checked (c .before) .0) (λ c. search needs) slice-reshare-prefix-decode-words
+    slice-aggregate-decode-words decode-words-requires (λ c. search needs) (λ c. search needs) (λ c. search needs) returns-3)

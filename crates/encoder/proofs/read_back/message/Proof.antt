@@ -16,9 +16,7 @@ use Rattle.words.proofs.AcceptedLaws.{accepted-in}
 use Rattle.words.proofs.AnswerLaws.{stays, goes, first-refused, first-passes, kept, written}
 use Rattle.words.proofs.WordListLaws.{list-in}
 use Rattle.words.proofs.TableLaws.{enough-slots}
-use Rattle.words.proofs.CodeLaws.{checks-pad}
-use Rattle.parity.proofs.CodeOfLaws.{checks-of}
-use Rattle.parity.proofs.CheckColumnLaws.{columns-syndrome}
+use Rattle.parity.proofs.CodeOfLaws.{checks-of, first-checks}
 use Rattle.encoder.specs.MessagesRead.{other}
 use Rattle.encoder.proofs.EncoderLaws.{messages-are, messages-read, past, other-found}
 use Rattle.encoder.proofs.read_back.message.Statement.{statement}
@@ -40,7 +38,7 @@ code c = c .before .before .before
 abbrev read-at : tie.After-row-sums-arg → tie.Else1
 read-at c = c .before .before .before
 
-abbrev passed-at : tie.After-first-refused → tie.After-enum-told3
+abbrev passed-at : tie.After-first-other → tie.After-enum-told3
 passed-at c = c .before .before .before
 
 passed : (c : tie.After-list-cause)
@@ -60,34 +58,27 @@ accepted : (c : tie.After-enum-told3)
     Accepted (a .n) (a .k) (a .rows .now)
 accepted c = accepted-in _ _ _ (passed (c .before .before))
 
-sub-k : tie.Need-sub-first-refused
+sub-k : tie.Need-sub-first-other
 sub-k c = omega (arith, accepted (c .before .before) .range .checks)
 
--- the sums of columns are the syndromes
-first-refused-requires : tie.Need-first-refused-requires
-first-refused-requires c κs =
+first-other-requires : tie.Need-first-other-requires
+first-other-requires c κs =
     let t = c .before .before in
-    let l = t .before .before in
-    let C = code l .code-of in
-    let a = start (code l) .args in
-    let L = list-in (a .words .now) (a .n) _ (listed t) in
-    let A = accepted t in (
-      (omega (arith, A .range .places), L .few),
-      λ i h. rw (checks-of (C .ensures .checks) (l .before .enum-told .given .1))
-          (columns-syndrome (a .n) (a .k) (a .rows .now) A _ (L .inside i h) ∙ sym (checks-pad (a .n) (a .k) (a .rows .now) A _)),
-    )
+    let a = start (code (t .before .before)) .args in
+    list-in (a .words .now) (a .n) _ (listed t) .few
 
 -- the word found by its syndrome is the first that is no codeword
-found : (c : tie.After-first-refused)
+found : (c : tie.After-first-other)
     → let a = start (code (passed-at c .before .before)) .args in
-    c .first-refused .result ≡ first (other (a .rows .now) (a .words .now)) (length (a .words .now))
+    c .first-other .result ≡ first (other (a .rows .now) (a .words .now)) (length (a .words .now))
 found c =
     let t = passed-at c in
     let l = t .before .before in
     let C = code l .code-of in
     let a = start (code l) .args in
-    other-found (a .n) (a .k) (a .rows .now) (a .words .now) (length (a .out .now)) (passed l) (listed t) (C .result .checks) (c .first-refused .result)
-    (checks-of (C .ensures .checks) (l .before .enum-told .given .1)) (c .first-refused .ensures)
+    other-found (a .n) (a .k) (a .rows .now) (a .words .now) (length (a .out .now)) (passed l) (listed t) _ (c .first-other .result)
+    (first-checks (a .n) (a .k) (a .rows .now) (accepted t) (C .result .checks) (checks-of (C .ensures .checks) (l .before .enum-told .given .1)))
+    (c .first-other .ensures)
 
 returns : tie.Need-returns
 returns c =
@@ -141,5 +132,5 @@ pub message-spec : {M : Type 1} → statement M
 message-spec =
     tie.close
     (tie.spec (λ c κs. search needs) (λ c. search needs) (λ c. search needs) returns (λ c κs. search needs) (λ c. search needs)
-    (λ c. search needs) returns-2 sub-k (λ c. search needs) first-refused-requires returns-3 (λ c. search needs) (λ c κs. search needs)
+    (λ c. search needs) returns-2 sub-k (λ c. search needs) first-other-requires returns-3 (λ c. search needs) (λ c κs. search needs)
     (λ c. search needs) returns-4)

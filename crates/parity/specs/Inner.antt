@@ -1,0 +1,1 @@
+pub mod Joined  -- one more digit of each syndrome
