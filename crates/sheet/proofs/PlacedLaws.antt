@@ -23,6 +23,7 @@ use Rattle.sheet.specs.declared.field.Field.{Field}
 use Rattle.sheet.specs.declared.field.Field.the-variants.{Got, Bad}
 use Rattle.sheet.proofs.SpanLaws.{length-words, word-of}
 use Rattle.sheet.proofs.FieldLaws.{good}
+use Rattle.sheet.proofs.WrittenLaws.{read-back}
 
 abbrev Within : List ℕ → Span → Type 0
 Within s span = span .at + 4 * span .count ≤ length s
@@ -143,4 +144,5 @@ sheet-read s r a = record {
   answer = a;
   rows = λ h e. placed s (h .rows) (both s h (sym a ∙ e) .0);
   words = λ h e. placed s (h .words) (both s h (sym a ∙ e) .1);
+  written = λ w. read-back w s r a;
 }
