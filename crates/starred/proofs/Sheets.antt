@@ -19,4 +19,26 @@ use Rattle.starred.specs.Sheets.{Sheets}
 pub sheets : Sheets
 unfolding ones trailingZeros parity messageOf dmin shapeAnswer matrixAnswer listAnswer codeAnswer listsAnswer decodeAnswer contentOf fieldAt sheetFrom
     sheetOf wordAt wordsAt decimal tallyOf closingLine refusedLine codeLine digitsOf wordLine wordLines batchOutput outputOf
-sheets = record { nearest = refl; within = refl; refused = refl; no-words = refl; empty = refl }
+sheets = record {
+  nearest = refl;
+  within = refl;
+  refused = refl;
+  no-words = refl;
+  empty = refl;
+  even = refl;
+  four-bytes = refl;
+  out-of-range = refl;
+  row-count = refl;
+  row-outside = refl;
+  dependent = refl;
+  many-words = refl;
+  word-outside = refl;
+  cut = refl;
+  past-end = refl;
+  wrong-length = (refl, refl);
+  unknown-tag = (refl, refl);
+  not-rising = (refl, refl);
+  missing = refl;
+  too-long = refl;
+  longest = refl;
+}

@@ -5,7 +5,8 @@ use mathlib.Core.List.{List, [], _∷_, map}
 use Prim.Native.Nat.{ℕ}
 use Rattle.coding.specs.Lists.{tabulate, zeros}
 use Rattle.coding.specs.Word.{bit}
-use Rattle.coding.specs.Interleaving.{interleaved, sortedWords}
+use Rattle.coding.specs.Matrix.{Codeword}
+use Rattle.coding.specs.Interleaving.{interleaved, sortedWords, SentWithBurst}
 use Rattle.words.specs.declared.answer.Refusal.the-variants.{RadiusTooLarge, WordOutside, ShortOutput, ShortWork, NoDepth, NoBits}
 use Rattle.words.specs.declared.answer.Answer.the-variants.{Done, Refused}
 use Rattle.outcomes.specs.Outcome.{wordOf, countOf}
@@ -33,6 +34,8 @@ pub record Bursts : Type 0 where
   pub sorted : sortedWords 7 3 (bitList 21 0b111001111101101001011) ≡ three
   -- bits 10, 11 and 12 changed: all come back
   pub burst : (words 1 0b111001111110001001011 ≡ three) × (counts 1 0b111001111110001001011 ≡ 1 ∷ 1 ∷ 1 ∷ [])
+  -- what the burst rule asks of them: codewords, and a burst of 3 * 1 places from bit 10 on
+  pub sent-with-burst : SentWithBurst (Codeword seven) 7 3 3 10 three (bitList 21 0b111001111110001001011)
   -- bits 9 and 12 changed, two places of word 0: it is decoded as 1010001
   pub too-wide : (words 1 0b111001111001001001011 ≡ 0x45 ∷ 0x45 ∷ 0x7F ∷ []) × (counts 1 0b111001111001001001011 ≡ 1 ∷ 0 ∷ 0 ∷ [])
   -- bit 9 changed, radius 0: word 0 is far

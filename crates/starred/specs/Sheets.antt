@@ -2,6 +2,8 @@
 use mathlib.Core.Path.{_≡_}
 use mathlib.Core.List.{List, [], _∷_, _++_}
 use Prim.Native.Nat.{ℕ, zero, suc, _/_, _%_}
+use Rattle.coding.specs.Lists.{zeros}
+use Rattle.sheet.specs.Words.{wordAt}
 use Rattle.sheet_run.specs.Text.{written}
 use Rattle.sheet_run.specs.Output.{outputOf}
 
@@ -31,3 +33,29 @@ pub record Sheets : Type 0 where
   pub no-words : outputOf (matrix ++ bytes 3 0x050000) ≡ written "6 3 3 1\nclean 0 mended 0 far 0 places 0\n"
   -- an empty sheet
   pub empty : outputOf [] ≡ written "refused 13 0\n"
+  -- n, k, dmin and t all different and dmin even: (6,2) with rows 111100, 001111, and the words 111100 and 100000
+  pub even : outputOf (bytes 30 0x01000106_02000102_0300080F_0000003C_00000005_00080F00_00000100_0000)
+      ≡ written "6 2 4 1\n111100 0\n000000 1\nclean 1 mended 1 far 0 places 1\n"
+  -- a word whose four bytes differ, low byte first
+  pub four-bytes : wordAt (bytes 4 0x01020408) 0 ≡ 0x08040201
+  -- n = 1; a row too few; a second row with a one at place 6; 01's dependent rows 1100, 1010, 0110, of which row 2 is a sum
+  pub out-of-range : outputOf (bytes 18 0x01000101_02000101_03000401_00000005_0000) ≡ written "refused 1 0\n"
+  pub row-count : outputOf (bytes 18 0x01000106_02000102_03000401_00000005_0000) ≡ written "refused 2 0\n"
+  pub row-outside : outputOf (bytes 22 0x01000106_02000102_03000801_00000040_00000005_0000) ≡ written "refused 3 1\n"
+  pub dependent : outputOf (bytes 26 0x01000104_02000103_03000C03_00000005_00000006_00000005_0000) ≡ written "refused 4 2\n"
+  -- 513 words; a second word with a one at place 6
+  pub many-words : outputOf (matrix ++ bytes 3 0x050804 ++ zeros 2052) ≡ written "refused 6 0\n"
+  pub word-outside : outputOf (matrix ++ bytes 11 0x05000823_00000040_000000) ≡ written "refused 7 1\n"
+  -- after the 23 bytes of n, k and the rows: two bytes of a field, a content cut after 4 of 8 bytes, words of 3 bytes, a radius of 2 bytes
+  pub cut : outputOf (matrix ++ bytes 2 0x0500) ≡ written "refused 12 23\n"
+  pub past-end : outputOf (matrix ++ bytes 7 0x05000823_000000) ≡ written "refused 12 23\n"
+  pub wrong-length : (outputOf (matrix ++ bytes 6 0x05000323_0000) ≡ written "refused 12 23\n")
+      × (outputOf (matrix ++ bytes 5 0x04000201_01 ++ words) ≡ written "refused 12 23\n")
+  -- an unknown tag, also with a content that is cut; tags that do not rise; no words, which is 13 at the sheet's length
+  pub unknown-tag : (outputOf (matrix ++ bytes 3 0x080000 ++ words) ≡ written "refused 13 23\n")
+      × (outputOf (matrix ++ bytes 3 0x08FFFF) ≡ written "refused 13 23\n")
+  pub not-rising : (outputOf (matrix ++ matrix) ≡ written "refused 13 23\n") × (outputOf (matrix ++ words ++ radius 1) ≡ written "refused 13 34\n")
+  pub missing : outputOf (matrix ++ radius 1) ≡ written "refused 13 27\n"
+  -- a sheet of 4,097 bytes is too long, one of 4,096 is not: its first tag, 0, is unknown
+  pub too-long : outputOf (zeros 4097) ≡ written "refused 12 4096\n"
+  pub longest : outputOf (zeros 4096) ≡ written "refused 13 0\n"
