@@ -7,11 +7,7 @@ use native.Mathlib.Omega.{arith}
 use borrow.Author.Tests.{lt-ltb, le-ltb}
 use lib.ListN.{length, getD, length-append, List·getD-append}
 use Rattle.sheet_run.specs.Decimal.{digit, decimalIn, decimal}
-
--- the number that digits say, after those that say a
-abbrev pub said : ℕ → List ℕ → ℕ
-said a [] = a
-said a (c ∷ cs) = said (a * 10 + (c - 48)) cs
+use Rattle.sheet_run.specs.Shown.{said}
 
 said-append : (a : ℕ) (xs ys : List ℕ) → said a (xs ++ ys) ≡ said (said a xs) ys
 said-append a [] ys = refl

@@ -5,16 +5,22 @@ use Prim.Native.Nat.{ℕ, _+_, _-_, _≤_, _<_}
 use native.Mathlib.Nat.{zero-add}
 use native.Mathlib.Omega.{arith}
 use borrow.Author.Tests.{le-leb, lt-leb}
-use lib.ListN.{length, drop}
-use lib.Seq.{length-take-le}
+use lib.ListN.{length, take, drop}
+use lib.Seq.{take-at, length-take-le}
 use Rattle.sheet_run.specs.Inner.Appended.{Appends}
 use Rattle.sheet.specs.Sheet.{sheetOf}
 use Rattle.sheet_run.specs.Output.{printed, outputOf}
 use Rattle.sheet_run.specs.Run.{maxOutput, Ran}
 use Rattle.sheet.specs.declared.answer.SheetAnswer.{SheetAnswer}
 use Rattle.sheet_run.proofs.AppendLaws.{appends-end}
+use Rattle.sheet_run.proofs.ClosingMeaning.{output-closed}
 
 module _ (sheet before : List ℕ) where
+  -- the first slots are the output
+  output-there : {r : ℕ} {after : List ℕ} → maxOutput ≤ length before → Appends before 0 (outputOf sheet) after r → take r after ≡ outputOf sheet
+  output-there {r} {after} h B =
+      ap (take r) (B .list) ∙ take-at (outputOf sheet) _ r (omega (arith, B .ends))
+
   pub ran : {a : SheetAnswer} {r : ℕ} {after : List ℕ} → maxOutput ≤ length before → a ≡ sheetOf sheet
       → Appends before 0 (printed sheet a) after r → Ran sheet before r after
   unfolding outputOf
@@ -26,7 +32,8 @@ module _ (sheet before : List ℕ) where
         list = rw l (B .list ∙ ap (λ (m : ℕ). outputOf sheet ++ drop m before) (zero-add (length (outputOf sheet))));
         fits = appends-end B;
         part = sym (length-take-le r after (appends-end B));
+        closing = λ _. rw (output-there h B) (output-closed sheet);
       }
 
   pub ran-not : length before < maxOutput → Ran sheet before 0 before
-  ran-not h = let l = lt-leb maxOutput (length before) h in record { count = rw l refl; list = rw l refl; fits = omega arith; part = refl }
+  ran-not h = let l = lt-leb maxOutput (length before) h in record { count = rw l refl; list = rw l refl; fits = omega arith; part = refl; closing = λ m. absurd (omega arith) }
