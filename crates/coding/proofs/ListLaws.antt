@@ -1,10 +1,12 @@
 -- Laws of lists: entries of mapped and tabulated lists. Assumes nothing.
-use mathlib.Core.Path.{_≡_, refl, ap, ap₂}
+use mathlib.Core.Path.{_≡_, refl, sym, ap, ap₂, _∙_}
 use mathlib.Core.List.{List, [], _∷_, map}
-use Prim.Native.Nat.{ℕ, zero, suc, _-_, _≤_, _<_, suc-le-suc}
+use Prim.Native.Nat.{ℕ, zero, suc, _-_, _≤_, _<_, suc-le-suc, min}
 use native.Mathlib.Nat.{le-of-suc-le-suc, zero-lt-suc}
+use native.Mathlib.Decide.{decLe}
 use native.Mathlib.Omega.{arith}
-use lib.ListN.{length, getD, take}
+use lib.ListN.{length, getD, take, drop, drop-of-length-le}
+use lib.Seq.{take-all}
 use Rattle.coding.specs.Lists.{tabulate}
 
 -- an entry of a mapped list
@@ -17,6 +19,25 @@ getD-map f (x ∷ l) (suc i) h = getD-map f l i (le-of-suc-le-suc h)
 pub map-same : (f g : ℕ → ℕ) (l : List ℕ) → ((i : ℕ) → i < length l → f (getD l i 0) ≡ g (getD l i 0)) → map f l ≡ map g l
 map-same f g [] h = refl
 map-same f g (x ∷ l) h = ap₂ _∷_ (h 0 (omega arith)) (map-same f g l (λ i k. h (suc i) (suc-le-suc k)))
+
+-- the first m entries, as many as there are, and those behind them
+module _ (l : List ℕ) (m r : ℕ) (e : r ≡ min m (length l)) where
+  pub take-most : take r l ≡ take m l
+  take-most = go (decLe m (length l))
+    where
+      go : Dec (m ≤ length l) → take r l ≡ take m l
+      go (yes h) = let s : r ≡ m = omega arith in ap (λ (x : ℕ). take x l) s
+      go (no h) = take-all r l (omega arith) ∙ sym (take-all m l (omega arith))
+
+  pub drop-most : drop r l ≡ drop m l
+  drop-most = go (decLe m (length l))
+    where
+      go : Dec (m ≤ length l) → drop r l ≡ drop m l
+      go (yes h) = let s : r ≡ m = omega arith in ap (λ (x : ℕ). drop x l) s
+      go (no h) =
+          let all : length l ≤ r = omega arith in
+          let more : length l ≤ m = omega arith in
+          drop-of-length-le l all ∙ sym (drop-of-length-le l more)
 
 -- a tabulated list has one entry for each argument
 pub length-tabulate : (f : ℕ → ℕ) (m : ℕ) → length (tabulate f m) ≡ m

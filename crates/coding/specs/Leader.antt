@@ -23,6 +23,10 @@ pub record IsLeader (n : ℕ) (rows : List ℕ) (s l : ℕ) : Type 0 where
   pub lightest : (v : ℕ) → v < 2 ^ n → syndromeOf n rows v ≡ s → weight l ≤ weight v
   pub smallest : (v : ℕ) → v < 2 ^ n → syndromeOf n rows v ≡ s → weight v ≡ weight l → l ≤ v
 
+-- 02, No. 6: every syndrome of c places has a leader, which weighs at most c
+abbrev pub EveryLeader : ℕ → List ℕ → ℕ → Type 0
+EveryLeader n rows c = (s : ℕ) → s < 2 ^ c → (l : ℕ) × IsLeader n rows s l × (weight l ≤ c)
+
 -- the blank entry: what the build writes before it tries words, and the value of a search that finds nothing. No lent list holds it at
 -- the end: every syndrome has a leader, and a leader weighs at most n - k (`leader-is`, `leader-light`)
 abbrev pub noLeader : ℕ

@@ -10,7 +10,7 @@ use borrow.Author.Tests.{leb-true, le-leb, lt-leb, eq-eqb}
 use Rattle.coding.specs.Matrix.{Inside}
 use Rattle.coding.specs.Weight.{dmin}
 use Rattle.words.specs.Limits.{maxWords, width}
-use Rattle.words.specs.Refusal.{numberOf, andThen, ifDone}
+use Rattle.words.specs.Refusal.{numberOf, andThen, Between, EveryRow, ifDone}
 use Rattle.words.specs.Shape.{firstOutside}
 use Rattle.words.specs.Accepted.{matrixAnswer, Accepted}
 use Rattle.words.proofs.AcceptedLaws.{accepted-in, matrix-numbered, matrix-passes}
@@ -20,7 +20,7 @@ use Rattle.words.specs.declared.answer.Refusal.the-variants.{RadiusTooLarge, Sh
 use Rattle.words.specs.declared.answer.Answer.{Answer}
 use Rattle.words.specs.declared.answer.Answer.the-variants.{Done, Refused}
 use Rattle.words.proofs.AnswerLaws.{unless-done, andThen-done, andThen-assoc, stays, goes}
-use Rattle.words.proofs.AnswerLaws.{Numbered, Between, Neither, neither, unless-numbered, andThen-numbered, numbered-as}
+use Rattle.words.proofs.AnswerLaws.{Numbered, Neither, neither, unless-numbered, andThen-numbered, numbered-as, never-of, rows-first}
 use Rattle.words.proofs.ShapeLaws.{inside-none}
 use Rattle.words.proofs.WordListLaws.{Listed, list-in, list-numbered, list-passes}
 use Rattle.weights.specs.Distance.{DistanceOf}
@@ -166,10 +166,17 @@ decode-numbered n k rows reading words slots bytes room =
     (lists-numbered n k words slots bytes room))
 
 pub refused-number : (n k : ℕ) (rows : List ℕ) (reading : Reading) (words : List ℕ) (slots bytes room : ℕ) (c : Refusal)
-    → decodeAnswer n k rows reading words slots bytes room ≡ Refused c → (1 ≤ numberOf c) × (numberOf c ≤ 9)
+    → decodeAnswer n k rows reading words slots bytes room ≡ Refused c → Between 1 9 (numberOf c)
 refused-number n k rows reading words slots bytes room c e = rw e at (decode-numbered n k rows reading words slots bytes room)
 
--- 02, No. 7: at 32 places neither 3 nor 7
+-- 02, No. 7: at 32 places never 3
+pub code-every-row : (n k : ℕ) (rows : List ℕ) (reading : Reading) → EveryRow n (matrixAnswer n k rows) → EveryRow n (codeAnswer n k rows reading)
+unfolding codeAnswer
+code-every-row n k rows reading w =
+    rows-first n (matrixAnswer n k rows) _ _ refl w
+    (never-of (Between 5 5) 3 (λ h. omega (arith, h)) _ (radius-numbered (Between 5 5) reading (dmin rows) (omega arith, omega arith)))
+
+-- neither 3 nor 7, where words are received
 pub decode-passes : (n k : ℕ) (rows : List ℕ) (reading : Reading) (words : List ℕ) (slots bytes room : ℕ) → n ≡ width → Inside width rows
     → Inside width words → Numbered (Neither 3 7) (decodeAnswer n k rows reading words slots bytes room)
 unfolding decodeAnswer codeAnswer listsAnswer

@@ -16,7 +16,7 @@ use Rattle.words.specs.declared.answer.Answer.{Answer}
 use Rattle.words.specs.declared.answer.Answer.the-variants.{Done, Refused}
 use Rattle.words.proofs.AnswerLaws.{refused-done, never, never-done, kept, filled, written}
 use Rattle.words.proofs.AcceptedLaws.{accepted-in}
-use Rattle.words.proofs.CodeLaws.{distance-is, syndrome-below, leader-at}
+use Rattle.words.proofs.CodeLaws.{distance-is, syndrome-below, leader-at, every-leader}
 use Rattle.leaders.specs.Leaders.{leadersList}
 use Rattle.leaders.proofs.BuiltLaws.{leaders-long}
 use Rattle.leaders.proofs.LeaderPromiseLaws.{leader-slot}
@@ -36,11 +36,12 @@ answerTo B L = decodeAnswer (B .n) (B .k) (B .rows) (B .reading) (B .words) (len
 pub decode-refused : (B : Batch) (L : Lent) → Inside width (B .rows) × Inside width (B .words) → (r : Answer) (c : Refusal) → r ≡ Refused c
     → r ≡ answerTo B L → (after : Lent) → after ≡ L → Decoded B L r after
 decode-refused B L (f, g) r c e b after s =
-    let (low, high) = refused-number (B .n) (B .k) (B .rows) (B .reading) (B .words) _ _ _ c (sym b ∙ e) in
+    let numbered = refused-number (B .n) (B .k) (B .rows) (B .reading) (B .words) _ _ _ c (sym b ∙ e) in
     record {
       answer = b;
-      either = inl (c, e, low, high, s);
+      either = inl (c, e, numbered, s);
       every-word = λ w. never 3 7 _ r b (decode-passes (B .n) (B .k) (B .rows) (B .reading) (B .words) _ _ _ w f g);
+      every-leader = every-leader (B .n) (B .k) (B .rows);
       codewords = ap (λ (l : Lent). l .codewords) s ∙ kept r c e _ (L .codewords);
       distances = ap (λ (l : Lent). l .counts) s ∙ kept r c e _ (L .counts);
       leaders = ap (λ (l : Lent). l .work) s ∙ kept r c e _ (L .work);
@@ -73,6 +74,7 @@ module _ (B : Batch) (L : Lent) (b : answerTo B L ≡ Done) where
     answer = sym b;
     either = inr refl;
     every-word = λ _. (never-done 3, never-done 7);
+    every-leader = every-leader (B .n) (B .k) (B .rows);
     codewords = written (wordOf (B .n) (B .rows) (B .reading)) (B .words) (L .codewords) (after .codewords) eo;
     distances = written (countOf (B .n) (B .rows) (B .reading)) (B .words) (L .counts) (after .counts) ec;
     leaders = filled (leadersList (B .n) (B .k) (B .rows)) (L .work) (after .work) _ (leaders-long (B .n) (B .k) (B .rows) A) ew;

@@ -1,9 +1,10 @@
 -- The causes of Decode, in order: 1 to 4, 5 within a radius, 6 to 8, and 9.
+use mathlib.Core.Path.{_≡_}
 use mathlib.Core.List.{List}
 use Prim.Native.Nat.{ℕ, _+_, _-_, _*_, _^_, min}
 use lib.Dec.{leb}
 use Rattle.coding.specs.Weight.{dmin}
-use Rattle.words.specs.Refusal.{unless, andThen}
+use Rattle.words.specs.Refusal.{unless, andThen, EveryRow}
 use Rattle.words.specs.Accepted.{matrixAnswer}
 use Rattle.words.specs.Lists.{listAnswer}
 use Rattle.words.specs.declared.answer.Refusal.the-variants.{RadiusTooLarge}
@@ -21,6 +22,11 @@ radiusAnswer (Within r) d = unless (leb (2 * r + 1) d) RadiusTooLarge Done
 -- causes 1 to 5: what is asked of the matrix and of the reading
 unfoldable pub codeAnswer : ℕ → ℕ → List ℕ → Reading → Answer
 codeAnswer n k rows reading = andThen (matrixAnswer n k rows) (radiusAnswer reading (dmin rows))
+
+-- what the call for them answers; at 32 places never 3 (02, No. 7)
+pub record CodeJudged (n k : ℕ) (rows : List ℕ) (reading : Reading) (r : Answer) : Type 0 where
+  pub answer : r ≡ codeAnswer n k rows reading
+  pub every-row : EveryRow n r
 
 -- causes 6 to 9; both output lists are as long as the words
 unfoldable pub listsAnswer : ℕ → ℕ → List ℕ → ℕ → ℕ → ℕ → Answer

@@ -2,15 +2,15 @@
 use mathlib.Core.Path.{_≡_}
 use mathlib.Core.Logic.{_↔_, _⊎_}
 use mathlib.Core.List.{List, map}
-use Prim.Native.Nat.{ℕ, _-_, _^_, _≤_, _<_}
+use Prim.Native.Nat.{ℕ, _-_, _^_, _<_}
 use lib.ListN.{length, getD}
 use Rattle.coding.specs.Word.{distance}
 use Rattle.coding.specs.Matrix.{Codeword}
 use Rattle.coding.specs.Weight.{dmin, MinimumDistance}
-use Rattle.coding.specs.Leader.{IsLeader}
+use Rattle.coding.specs.Leader.{IsLeader, EveryLeader}
 use Rattle.coding.specs.Radius.{NearestRule, RadiusRules}
-use Rattle.words.specs.Limits.{width}
-use Rattle.words.specs.Refusal.{numberOf, Never, onDone}
+use Rattle.words.specs.Refusal.{numberOf, Between, EveryWord, onDone}
+use Rattle.words.specs.Accepted.{Accepted}
 use Rattle.words.specs.declared.answer.Refusal.{Refusal}
 use Rattle.words.specs.declared.answer.Answer.{Answer}
 use Rattle.words.specs.declared.answer.Answer.the-variants.{Done, Refused}
@@ -36,13 +36,14 @@ pub record Lent : Type 0 where
   pub work : List ℕ
 
 -- Decode either refuses under 1 to 9 with every list unchanged, or succeeds; at 32 places every number is a word, so that 3 and 7 never
--- arise (02, No. 7). On success slot i of the codewords and of the counts is the answer to word i, 255 meaning far, the working list
+-- arise (02, No. 7). Every syndrome of an accepted matrix has a leader (02, No. 6). On success slot i of the codewords and of the counts is the answer to word i, 255 meaning far, the working list
 -- holds the leaders, and later slots are as they were; dmin is the minimum distance, demand 3 holds of every word of the batch, in
 -- either reading, and a word is clean exactly when its count is 0
 pub record Decoded (B : Batch) (before : Lent) (r : Answer) (after : Lent) : Type 0 where
   pub answer : r ≡ decodeAnswer (B .n) (B .k) (B .rows) (B .reading) (B .words) (length (before .codewords)) (length (before .counts)) (length (before .work))
-  pub either : ((c : Refusal) × (r ≡ Refused c) × (1 ≤ numberOf c) × (numberOf c ≤ 9) × (after ≡ before)) ⊎ (r ≡ Done)
-  pub every-word : B .n ≡ width → Never 3 r × Never 7 r
+  pub either : ((c : Refusal) × (r ≡ Refused c) × Between 1 9 (numberOf c) × (after ≡ before)) ⊎ (r ≡ Done)
+  pub every-word : EveryWord (B .n) r
+  pub every-leader : Accepted (B .n) (B .k) (B .rows) → EveryLeader (B .n) (B .rows) (B .n - B .k)
   pub codewords : after .codewords ≡ onDone r (map (wordOf (B .n) (B .rows) (B .reading)) (B .words)) (before .codewords)
   pub distances : after .counts ≡ onDone r (map (countOf (B .n) (B .rows) (B .reading)) (B .words)) (before .counts)
   pub leaders : after .work ≡ onDone r (leadersList (B .n) (B .k) (B .rows)) (before .work)

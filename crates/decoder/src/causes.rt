@@ -11,7 +11,7 @@ ghost use mathlib.Core.Path.{_≡_};
 ghost use Prim.Native.Nat.{ℕ, _≤_, min};
 ghost use Rattle.words.specs.Refusal.{andThen};
 ghost use Rattle.words.specs.Lists.{listAnswer};
-ghost use Rattle.decoder.specs.Causes.{radiusAnswer, codeAnswer};
+ghost use Rattle.decoder.specs.Causes.{radiusAnswer, codeAnswer, CodeJudged};
 ghost use Rattle.decoder.specs.Inner.Known.{PastOf};
 ghost use Rattle.outcomes.specs.declared.ending.Reading.the-variants.{Within};
 
@@ -50,7 +50,7 @@ fn known_code(measure: bool, n: u32, k: u32, rows: &[u32], reading: Reading) -> 
 
 // Causes 1 to 5: what Decode asks of the matrix and of the reading.
 pub fn code_cause(n: u32, k: u32, rows: &[u32], reading: Reading) -> Answer
-    ensures { λ r. ⌜ r ≡ codeAnswer n k (now (rows .entry)) reading ⌝ }
+    ensures { λ r. ⌜ CodeJudged n k (now (rows .entry)) reading r ⌝ }
 {
     let c = known_code(false, n, k, rows, reading);
     c.answer

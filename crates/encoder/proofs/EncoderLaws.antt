@@ -21,13 +21,13 @@ use Rattle.coding.proofs.CheckRowLaws.{syndrome-codeword}
 use Rattle.coding.proofs.TraceLaws.{message-trace, trace-message}
 use Rattle.coding.proofs.WidthLaws.{inside-wide}
 use Rattle.words.specs.Limits.{width}
-use Rattle.words.specs.Refusal.{andThen, onDone}
+use Rattle.words.specs.Refusal.{andThen, Between, EveryRow, onDone}
 use Rattle.words.specs.Lists.{listAnswer}
 use Rattle.words.specs.declared.answer.Refusal.the-variants.{NoCodeword}
 use Rattle.words.specs.declared.answer.Answer.{Answer}
 use Rattle.words.specs.declared.answer.Answer.the-variants.{Done}
-use Rattle.words.proofs.WordListLaws.{list-in, list-passes}
-use Rattle.words.proofs.AnswerLaws.{goes, Numbered, Neither, neither, unless-numbered, andThen-numbered, never}
+use Rattle.words.proofs.WordListLaws.{list-in, list-numbered, list-passes}
+use Rattle.words.proofs.AnswerLaws.{goes, Numbered, Neither, neither, unless-numbered, andThen-numbered, never, never-of, rows-first}
 use Rattle.words.specs.Accepted.{matrixAnswer, Accepted}
 use Rattle.words.proofs.AcceptedLaws.{accepted-in, matrix-passes}
 use Rattle.words.proofs.CodeLaws.{one-is, back-is}
@@ -73,9 +73,18 @@ message-passes n k rows words slots e f g =
 
 -- what Encode and Message promise, from the answer and the slots
 module _ (n k : ℕ) (rows words before : List ℕ) (r : Answer) (after : List ℕ) where
-  pub encoded : r ≡ encodeAnswer n k rows words (length before) → after ≡ onDone r (map (encode rows) words) before
+  pub encoded : EveryRow n (matrixAnswer n k rows) → r ≡ encodeAnswer n k rows words (length before) → after ≡ onDone r (map (encode rows) words) before
       → Encoded n k rows words before r after
-  encoded a s = record { answer = a; slots = s; product = encode-place rows; back = λ A u h. back-is n k rows A u h }
+  encoded w a s = record {
+    answer = a;
+    every-row = rows-first n (matrixAnswer n k rows) _ r a w (never-of (Between 6 8) 3 (λ h. omega (arith, h)) _ listed);
+    slots = s;
+    product = encode-place rows;
+    back = λ A u h. back-is n k rows A u h;
+  }
+    where
+      listed : Numbered (Between 6 8) (listAnswer words k (length before))
+      listed = list-numbered (Between 6 8) words k (length before) (omega arith, omega arith) (omega arith, omega arith) (omega arith, omega arith)
 
   pub messages-read : Inside width rows × Inside width words → r ≡ messageAnswer n k rows words (length before)
       → after ≡ onDone r (map (messageOf rows) words) before → MessagesRead n k rows words before r after

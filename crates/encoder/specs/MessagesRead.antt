@@ -5,8 +5,7 @@ use mathlib.Core.Bool.{Bool, not}
 use Prim.Native.Nat.{ℕ, _^_, _<_}
 use lib.ListN.{length, getD}
 use Rattle.coding.specs.Matrix.{encode, Codeword, IsMessage, messageOf, isCodeword}
-use Rattle.words.specs.Limits.{width}
-use Rattle.words.specs.Refusal.{refuseFirst, andThen, Never, onDone}
+use Rattle.words.specs.Refusal.{refuseFirst, andThen, EveryWord, onDone}
 use Rattle.words.specs.Accepted.{matrixAnswer, Accepted}
 use Rattle.words.specs.Lists.{listAnswer}
 use Rattle.words.specs.declared.answer.Refusal.the-variants.{NoCodeword}
@@ -29,6 +28,6 @@ messageAnswer n k rows words slots =
 pub record MessagesRead (n k : ℕ) (rows words before : List ℕ) (r : Answer) (after : List ℕ) : Type 0 where
   pub answer : r ≡ messageAnswer n k rows words (length before)
   pub slots : after ≡ onDone r (map (messageOf rows) words) before
-  pub every-word : n ≡ width → Never 3 r × Never 7 r
+  pub every-word : EveryWord n r
   pub one : Accepted n k rows → (w : ℕ) → Codeword rows w → IsMessage rows w (messageOf rows w)
   pub back : Accepted n k rows → (u : ℕ) → u < 2 ^ k → messageOf rows (encode rows u) ≡ u

@@ -123,7 +123,7 @@ module _ (c : ℕ) (cols : List ℕ) (K : OddColumns c cols) (w : Word) (P : Spl
           beyond b B (yes l) = absurd (none e₀ e₁ e₂ (near-syndrome c cols (split w) P b B l))
           beyond b B (no l) = omega arith
 
-  radius-one : RadiusRules SplitWord (SplitCodeword c cols) splitDistance 4 1 (split w)
+  pub radius-one : RadiusRules SplitWord (SplitCodeword c cols) splitDistance 4 1 (split w)
       (split (wordIn (outcomeBy c cols w) w))
       (countIn (outcomeBy c cols w)) (countIn (outcomeBy c cols w) ≡ 255)
   radius-one =

@@ -7,7 +7,7 @@ use lib.ListN.{replicate}
 use Rattle.coding.specs.Lists.{tabulate, total}
 use Rattle.coding.specs.Word.{bit, weight}
 use Rattle.coding.specs.Order.{words}
-use Rattle.coding.specs.Columns.{SplitWord, units, splitSyndrome, SplitPlaces, SplitCodeword, OddColumns}
+use Rattle.coding.specs.Columns.{SplitWord, units, splitSyndrome, SplitCodeword, OddColumns}
 use Rattle.hsiao.specs.declared.word.Word.{Word}
 
 -- the columns of the data places: the bytes of weight 3 in rising order, then these of weight 5
@@ -25,9 +25,8 @@ syndromeOf w = splitSyndrome 8 columns (split w)
 abbrev pub IsCodeword : Word → Type 0
 IsCodeword w = SplitCodeword 8 columns (split w)
 
--- what a syndrome r tells: w is a word of 72 places, r is the sum, and w is a codeword exactly when r is 0
+-- what a syndrome r tells: it is the sum, and w is a codeword exactly when r is 0
 pub record HasSyndrome (w : Word) (r : ℕ) : Type 0 where
-  pub places : SplitPlaces 8 columns (split w)
   pub sum : r ≡ syndromeOf w
   pub codeword : (r ≡ 0) ↔ IsCodeword w
 

@@ -5,8 +5,7 @@ use crate::syndromes::syndrome;
 use crate::word::Word;
 ghost use mathlib.Core.Path.{_≡_};
 ghost use lib.ListN.{take};
-ghost use Rattle.coding.specs.Columns.{SplitPlaces};
-ghost use Rattle.hsiao.specs.Table.{columns, split};
+ghost use Rattle.hsiao.specs.Table.{columns};
 ghost use Rattle.hsiao.specs.Outcome.{outcomeAt, outcomeOf, wordIn, countIn};
 
 // Clean: no error; mended: corrected in so many places; far: a decoding failure, two errors being detected.
@@ -43,7 +42,7 @@ pub(crate) fn outcome_at(table: &[u8; 64], places: u8, w: Word, s: u8) -> Outcom
 
 // The outcome of a word of the (72,64) code, by its syndrome.
 pub fn outcome_of(w: Word) -> Outcome
-    ensures { λ o. ⌜ (o ≡ outcomeOf w) × SplitPlaces 8 columns (split w) ⌝ }
+    ensures { λ o. ⌜ o ≡ outcomeOf w ⌝ }
 {
     let table = COLUMNS;
     let s = syndrome(w);

@@ -11,11 +11,11 @@ use borrow.Author.Tests.{leb-true, le-leb, lt-leb, eqb-true, eq-eqb, ne-eqb, ltb
 use Rattle.coding.specs.Matrix.{Inside}
 use Rattle.coding.proofs.LoopLaws.{Gathered, gathered-each, gathered-joint}
 use Rattle.words.specs.Limits.{maxDepth}
-use Rattle.words.specs.Refusal.{unless}
+use Rattle.words.specs.Refusal.{unless, Between}
 use Rattle.words.specs.Shape.{firstOutside}
 use Rattle.words.specs.declared.answer.Refusal.the-variants.{NoDepth, NoBits}
 use Rattle.words.specs.declared.answer.Answer.the-variants.{Done, Refused}
-use Rattle.words.proofs.AnswerLaws.{unless-done, andThen-done, goes}
+use Rattle.words.proofs.AnswerLaws.{unless-done, andThen-done, goes, Numbered, unless-numbered, andThen-numbered}
 use Rattle.words.proofs.ShapeLaws.{outside-none, inside-none}
 use Rattle.interleaving.specs.Causes.{onlyBits, lengthAnswer, bitsAnswer}
 
@@ -37,6 +37,14 @@ module _ (n L m : ℕ) where
   pub length-right : 1 ≤ L → L ≤ maxDepth → m ≡ L * n → Done ≡ lengthAnswer n L m
   unfolding lengthAnswer
   length-right h k e = simp (le-leb 1 L h, le-leb L maxDepth k, eq-eqb m (L * n) e)
+
+  -- the numbers of these causes
+  pub length-numbered : Numbered (Between 16 17) (lengthAnswer n L m)
+  unfolding lengthAnswer
+  length-numbered =
+      unless-numbered (Between 16 17) (leb 1 L) NoDepth _ (omega arith, omega arith)
+      (unless-numbered (Between 16 17) (leb L maxDepth) NoDepth _ (omega arith, omega arith)
+      (unless-numbered (Between 16 17) (eqb m (L * n)) NoBits Done (omega arith, omega arith) tt))
 
   -- what is known when they pass
   pub record Fitting : Type 0 where
@@ -67,6 +75,12 @@ module _ (n L : ℕ) (bits : List ℕ) where
   bits-in e =
       let (a, b) = andThen-done (lengthAnswer n L (length bits)) _ e in
       (length-in n L (length bits) a, outside-none 1 bits (eqb-true (firstOutside 1 bits) (length bits) (unless-done (onlyBits bits) NoBits Done b .0)))
+
+  pub bits-numbered : Numbered (Between 16 17) (bitsAnswer n L bits)
+  unfolding bitsAnswer
+  bits-numbered =
+      andThen-numbered (Between 16 17) (lengthAnswer n L (length bits)) _ (length-numbered n L (length bits))
+      (unless-numbered (Between 16 17) (onlyBits bits) NoBits Done (omega arith, omega arith) tt)
 
 -- ---- the bytes joined
 

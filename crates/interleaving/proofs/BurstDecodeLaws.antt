@@ -1,6 +1,6 @@
 -- What the decode promises: its causes and their numbers, and bursts from demand 3 of each word. Assumes nothing.
 use mathlib.Core.Path.{_≡_, refl, sym, ap, subst, _∙_}
-use mathlib.Core.Logic.{_⊎_, _≢_, inl, inr}
+use mathlib.Core.Logic.{_⊎_, inl, inr}
 use mathlib.Core.List.{List, map, _++_}
 use Prim.Native.Nat.{ℕ, _*_, _≤_, _<_}
 use native.Mathlib.Omega.{arith}
@@ -13,25 +13,31 @@ use Rattle.coding.specs.Interleaving.{sortedWords, BurstRule}
 use Rattle.coding.proofs.MatrixLaws.{codeword-lt}
 use Rattle.coding.proofs.InterleavingLaws.{sorted-at, sorted-long, sorted-inside, burst-rule}
 use Rattle.words.specs.Limits.{maxPlaces, maxDepth}
-use Rattle.words.specs.Refusal.{numberOf, andThen}
+use Rattle.words.specs.Refusal.{numberOf, andThen, Between, EveryRow}
 use Rattle.words.specs.Shape.{shapeAnswer}
+use Rattle.words.specs.Accepted.{matrixAnswer}
 use Rattle.words.specs.declared.answer.Refusal.{Refusal}
 use Rattle.words.specs.declared.answer.Refusal.the-variants.{OutOfRange, NoDepth, NoBits}
 use Rattle.words.specs.declared.answer.Answer.{Answer}
 use Rattle.words.specs.declared.answer.Answer.the-variants.{Done, Refused}
-use Rattle.words.proofs.AnswerLaws.{refused-done, stays, goes, Numbered, unless-numbered, andThen-numbered, numbered-as, Between, Neither, neither}
+use Rattle.words.proofs.AnswerLaws.{refused-done, stays, goes, Numbered, unless-numbered, andThen-numbered, numbered-as}
+use Rattle.words.proofs.AnswerLaws.{never-done, never-of, every-row-of, rows-first}
 use Rattle.words.proofs.AcceptedLaws.{shape-refused}
 use Rattle.outcomes.specs.Outcome.{wordOf}
 use Rattle.outcomes.specs.declared.ending.Reading.{Reading}
 use Rattle.outcomes.specs.declared.ending.Reading.the-variants.{Within}
 use Rattle.decoder.specs.Causes.{codeAnswer, listsAnswer, decodeAnswer}
 use Rattle.decoder.specs.Decoded.{Lent, Decoded}
-use Rattle.decoder.proofs.CauseLaws.{accepted-past, at-matrix, code-numbered, lists-last}
+use Rattle.decoder.proofs.CauseLaws.{accepted-past, at-matrix, code-numbered, code-every-row, lists-last}
 use Rattle.interleaving.specs.Causes.{onlyBits, lengthAnswer, bitsAnswer, interleavedAnswer}
-use Rattle.interleaving.specs.Decoded.{Received, sortedBatch, DecodedInterleaved}
-use Rattle.interleaving.proofs.BitLaws.{bits-in}
+use Rattle.interleaving.specs.Decoded.{Received, sortedBatch, InterleavedNumber, DecodedInterleaved}
+use Rattle.interleaving.proofs.BitLaws.{bits-in, bits-numbered}
 
 -- ---- the causes in order
+
+-- the numbers past the first five
+abbrev Later : ℕ → Type 0
+Later m = Between 8 9 m ⊎ Between 16 17 m
 
 module _ (n k : ℕ) (rows : List ℕ) (ρ L : ℕ) (bits : List ℕ) (slots bytes room : ℕ) where
   abbrev answer : Answer
@@ -54,40 +60,43 @@ module _ (n k : ℕ) (rows : List ℕ) (ρ L : ℕ) (bits : List ℕ) (slots byt
   unfolding interleavedAnswer decodeAnswer
   decode-decides e = ap (andThen (codeAnswer n k rows (Within ρ))) (goes (bitsAnswer n L bits) _ e)
 
-  -- ---- 6 and 7 never arise
-
-  bits-numbered : Numbered (Neither 6 7) (bitsAnswer n L bits)
-  unfolding bitsAnswer lengthAnswer
-  bits-numbered =
-      andThen-numbered (Neither 6 7) (lengthAnswer n L (length bits)) _
-      (unless-numbered (Neither 6 7) (leb 1 L) NoDepth _ (neither 6 7 16 refl refl)
-      (unless-numbered (Neither 6 7) (leb L maxDepth) NoDepth _ (neither 6 7 16 refl refl)
-      (unless-numbered (Neither 6 7) (eqb (length bits) (L * n)) NoBits Done (neither 6 7 17 refl refl) tt)))
-      (unless-numbered (Neither 6 7) (onlyBits bits) NoBits Done (neither 6 7 17 refl refl) tt)
+  -- ---- the numbers: 6 and 7 never arise
 
   -- the words sorted back are few and have n places
-  lists-numbered : bitsAnswer n L bits ≡ Done → Numbered (Neither 6 7) (listsAnswer n k (sortedWords n L bits) slots bytes room)
+  lists-numbered : bitsAnswer n L bits ≡ Done → Numbered Later (listsAnswer n k (sortedWords n L bits) slots bytes room)
   lists-numbered e =
       let (F, f) = bits-in n L bits e in
-      numbered-as (Neither 6 7) (Between 8 9) (λ m h. (λ z. absurd (omega (arith, h)), λ z. absurd (omega (arith, h))))
-      (listsAnswer n k (sortedWords n L bits) slots bytes room)
+      numbered-as Later (Between 8 9) (λ m h. inl h) (listsAnswer n k (sortedWords n L bits) slots bytes room)
       (lists-last n k (sortedWords n L bits) slots bytes room (omega (arith, F .small, sorted-long n L bits)) (sorted-inside n L bits f))
 
-  numbered : Numbered (Neither 6 7) answer
+  later-numbered : Numbered Later (andThen (bitsAnswer n L bits) (listsAnswer n k (sortedWords n L bits) slots bytes room))
+  later-numbered = go (bitsAnswer n L bits) refl (bits-numbered n L bits)
+    where
+      go : (b : Answer) → bitsAnswer n L bits ≡ b → Numbered (Between 16 17) b
+          → Numbered Later (andThen b (listsAnswer n k (sortedWords n L bits) slots bytes room))
+      go Done e h = lists-numbered e
+      go (Refused c) e h = inr h
+
+  numbered : Numbered InterleavedNumber answer
   unfolding interleavedAnswer
   numbered =
-      andThen-numbered (Neither 6 7) (codeAnswer n k rows (Within ρ)) _
-      (numbered-as (Neither 6 7) (Between 1 5) (λ m h. (λ z. absurd (omega (arith, h)), λ z. absurd (omega (arith, h)))) (codeAnswer n k rows (Within ρ))
-      (code-numbered n k rows (Within ρ)))
-      (go (bitsAnswer n L bits) refl bits-numbered)
-    where
-      go : (b : Answer) → bitsAnswer n L bits ≡ b → Numbered (Neither 6 7) b
-          → Numbered (Neither 6 7) (andThen b (listsAnswer n k (sortedWords n L bits) slots bytes room))
-      go Done e h = lists-numbered e
-      go (Refused c) e h = h
+      andThen-numbered InterleavedNumber (codeAnswer n k rows (Within ρ)) _
+      (numbered-as InterleavedNumber (Between 1 5) (λ m h. inl h) (codeAnswer n k rows (Within ρ)) (code-numbered n k rows (Within ρ)))
+      (numbered-as InterleavedNumber Later (λ m h. inr h) (andThen (bitsAnswer n L bits) (listsAnswer n k (sortedWords n L bits) slots bytes room))
+      later-numbered)
 
-  pub other-number : (c : Refusal) → answer ≡ Refused c → (numberOf c ≢ 6) × (numberOf c ≢ 7)
-  other-number c e = rw e at numbered
+  pub listed-number : (c : Refusal) → answer ≡ Refused c → InterleavedNumber (numberOf c)
+  listed-number c e = rw e at numbered
+
+  -- and at 32 places 3 does not
+  pub answer-every-row : EveryRow n (matrixAnswer n k rows) → EveryRow n answer
+  unfolding interleavedAnswer
+  answer-every-row w =
+      rows-first n (codeAnswer n k rows (Within ρ)) _ _ refl (code-every-row n k rows (Within ρ) w) (never-of Later 3 none _ later-numbered)
+    where
+      none : Later 3 → ⊥
+      none (inl h) = omega (arith, h)
+      none (inr h) = omega (arith, h)
 
 -- ---- the promise
 
@@ -98,20 +107,19 @@ pub decoded-of : {n k : ℕ} {rows ws vs : List ℕ} {reading : Reading} {before
 decoded-of {n} {k} {rows} {reading = reading} {before} {after} {r} e D =
     subst (λ (x : List ℕ). Decoded (record { n = n; k = k; rows = rows; reading = reading; words = x }) before r after) e D
 
-module _ (R : Received) (before : Lent) where
+module _ (R : Received) (before : Lent) (w : EveryRow (R .n) (matrixAnswer (R .n) (R .k) (R .rows))) where
   abbrev answerTo : Answer
   answerTo =
       answer (R .n) (R .k) (R .rows) (R .radius) (R .depth) (R .bits) (length (before .codewords)) (length (before .counts)) (length (before .work))
 
   pub decode-refused : (r : Answer) (c : Refusal) → r ≡ Refused c → r ≡ answerTo → (after : Lent) → after ≡ before → DecodedInterleaved R before r after
-  decode-refused r c e a after s =
-      let (six, seven) = other-number (R .n) (R .k) (R .rows) (R .radius) (R .depth) (R .bits) _ _ _ c (sym a ∙ e) in
-      record {
-        answer = a;
-        either = inl (c, e, six, seven, s);
-        each = λ d. refused-done (sym e ∙ d);
-        bursts = λ d. refused-done (sym e ∙ d);
-      }
+  decode-refused r c e a after s = record {
+    answer = a;
+    either = inl (c, e, listed-number (R .n) (R .k) (R .rows) (R .radius) (R .depth) (R .bits) _ _ _ c (sym a ∙ e), s);
+    every-row = every-row-of _ _ (sym a) (answer-every-row (R .n) (R .k) (R .rows) (R .radius) (R .depth) (R .bits) _ _ _ w);
+    each = λ d. refused-done (sym e ∙ d);
+    bursts = λ d. refused-done (sym e ∙ d);
+  }
 
   -- whichever way it ends
   pub bits-refuse : (r : Answer) (b : Answer) (c : Refusal) → r ≡ answerTo → b ≡ Refused c
@@ -153,6 +161,6 @@ module _ (R : Received) (before : Lent) where
         a : r ≡ answerTo
         a = D .answer ∙ decode-decides (R .n) (R .k) (R .rows) (R .radius) (R .depth) (R .bits) _ _ _ b
 
-        go : ((c : Refusal) × (r ≡ Refused c) × (1 ≤ numberOf c) × (numberOf c ≤ 9) × (after ≡ before)) ⊎ (r ≡ Done) → DecodedInterleaved R before r after
-        go (inl (c, e, low, high, s)) = decode-refused r c e a after s
-        go (inr d) = record { answer = a; either = inr d; each = λ _. D; bursts = burst-mended }
+        go : ((c : Refusal) × (r ≡ Refused c) × Between 1 9 (numberOf c) × (after ≡ before)) ⊎ (r ≡ Done) → DecodedInterleaved R before r after
+        go (inl (c, e, m, s)) = decode-refused r c e a after s
+        go (inr d) = record { answer = a; either = inr d; every-row = λ _. rw d (never-done 3); each = λ _. D; bursts = burst-mended }

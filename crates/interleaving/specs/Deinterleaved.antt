@@ -5,15 +5,16 @@ use Prim.Native.Nat.{ℕ, _+_, _*_, _^_, _<_}
 use lib.ListN.{length, getD}
 use Rattle.coding.specs.Word.{bit}
 use Rattle.coding.specs.Interleaving.{interleaved, sortedWords}
-use Rattle.words.specs.Refusal.{onDone}
+use Rattle.words.specs.Refusal.{EveryRow, onDone}
 use Rattle.words.specs.declared.answer.Answer.{Answer}
 use Rattle.words.specs.declared.answer.Answer.the-variants.{Done}
 use Rattle.interleaving.specs.Causes.{deinterleaveAnswer}
 
 -- slot i holds word i of the L words, every later slot and on a refusal every slot is as it was: a word of n places whose place j is bit
--- number L * j + i, and the words interleaved again are the bits
+-- number L * j + i, and the words interleaved again are the bits; at 32 places never 3 (02, No. 7)
 pub record Deinterleaved (n k : ℕ) (rows : List ℕ) (L : ℕ) (bits before : List ℕ) (r : Answer) (after : List ℕ) : Type 0 where
   pub answer : r ≡ deinterleaveAnswer n k rows L bits (length before)
+  pub every-row : EveryRow n r
   pub slots : after ≡ onDone r (sortedWords n L bits) before
   pub inside : r ≡ Done → (i : ℕ) → i < L → getD after i 0 < 2 ^ n
   pub travelled : r ≡ Done → (i j : ℕ) → i < L → j < n → bit (getD after i 0) j ≡ getD bits (L * j + i) 0

@@ -13,13 +13,14 @@ use Rattle.coding.specs.Check.{checks}
 use Rattle.coding.specs.Leader.{leaderOf}
 use Rattle.coding.proofs.ListLaws.{getD-tabulate}
 use Rattle.words.specs.Limits.{maxChecks, width}
+use Rattle.words.specs.Refusal.{Between, Never, EveryRow}
 use Rattle.words.specs.Accepted.{matrixAnswer, Accepted}
 use Rattle.words.specs.declared.answer.Refusal.{Refusal}
 use Rattle.words.specs.declared.answer.Refusal.the-variants.{ShortWork}
 use Rattle.words.specs.declared.answer.Answer.the-variants.{Done, Refused}
-use Rattle.words.proofs.AnswerLaws.{refused-done, kept, filled}
+use Rattle.words.proofs.AnswerLaws.{refused-done, never-done, rows-first, unless-numbered, never-of, kept, filled}
 use Rattle.words.proofs.AcceptedLaws.{in-accepted}
-use Rattle.words.proofs.CodeLaws.{leader-at, light}
+use Rattle.words.proofs.CodeLaws.{leader-at, light, every-leader}
 use Rattle.parity.specs.ParityChecks.{ParityChecksOf}
 use Rattle.leaders.specs.Leaders.{workAnswer, leadersAnswer, leadersList, leadersTried, LeadersOf}
 use Rattle.leaders.specs.LeadersBy.{filledBy, triedBy, leadersFit, LeadersBy}
@@ -82,6 +83,8 @@ module _ (n k : ℕ) (rows : List ℕ) (A : Accepted n k rows) where
       → LeadersOf n k rows before r after
   leaders-written before r d w c after (e, t) = record {
     answer = d ∙ sym (rw (in-accepted n k rows A, w) refl);
+    every-row = λ _. rw d (never-done 3);
+    every-leader = every-leader n k rows;
     checks = λ _. rw d c;
     no-checks = λ _ q. refused-done (sym q ∙ d);
     list = rw d (filled (leadersList n k rows) before after (2 ^ (n - k)) (leaders-long n k rows A) e);
@@ -93,6 +96,11 @@ module _ (n k : ℕ) (rows : List ℕ) (A : Accepted n k rows) where
 
 -- ---- a refusal
 
+-- 9 is not 3
+work-never : (room size : ℕ) → Never 3 (workAnswer room size)
+work-never room size =
+    never-of (Between 9 9) 3 (λ h. omega (arith, h)) (workAnswer room size) (unless-numbered (Between 9 9) (leb size room) ShortWork Done (omega arith, omega arith) tt)
+
 module _ (n k : ℕ) (rows : List ℕ) where
   pub matrix-refuses : (room : ℕ) (c : Refusal) → matrixAnswer n k rows ≡ Refused c → Refused c ≡ leadersAnswer n k rows room
   matrix-refuses room c e = rw e refl
@@ -101,10 +109,12 @@ module _ (n k : ℕ) (rows : List ℕ) where
   work-refuses room A e = rw (in-accepted n k rows A, e) refl
 
   -- it writes nothing
-  pub leaders-refused : (before after : List ℕ) → after ≡ before → (r : Leaders) (c : Refusal) → r .answer ≡ Refused c
+  pub leaders-refused : EveryRow n (matrixAnswer n k rows) → (before after : List ℕ) → after ≡ before → (r : Leaders) (c : Refusal) → r .answer ≡ Refused c
       → (r .checks ≡ zeros maxChecks) × (r .tried ≡ 0) → Refused c ≡ leadersAnswer n k rows (length before) → LeadersOf n k rows before r after
-  leaders-refused before after s r c e z a = record {
+  leaders-refused w before after s r c e z a = record {
     answer = e ∙ a;
+    every-row = rows-first n (matrixAnswer n k rows) (workAnswer (length before) (2 ^ (n - k))) (r .answer) (e ∙ a) w (work-never (length before) (2 ^ (n - k)));
+    every-leader = every-leader n k rows;
     checks = λ d. refused-done (sym e ∙ d);
     no-checks = λ _ _. z .0;
     list = s ∙ kept (r .answer) c e (leadersList n k rows) before;

@@ -7,16 +7,16 @@ use lib.Dec.{leb}
 use lib.ListN.{length, getD}
 use Rattle.coding.specs.Lists.{zeros, tabulate}
 use Rattle.coding.specs.Word.{weight}
-use Rattle.coding.specs.Leader.{syndromeOf, IsLeader, leaderOf}
+use Rattle.coding.specs.Leader.{syndromeOf, IsLeader, EveryLeader, leaderOf}
 use Rattle.coding.specs.Order.{order, blanks}
 use Rattle.coding.specs.Tries.{tried, LastLeader}
 use Rattle.words.specs.Limits.{maxChecks}
-use Rattle.words.specs.Refusal.{unless, andThen, onDone, ifDone}
+use Rattle.words.specs.Refusal.{unless, andThen, EveryRow, onDone, ifDone}
 use Rattle.words.specs.declared.answer.Refusal.{Refusal}
 use Rattle.words.specs.declared.answer.Refusal.the-variants.{ShortWork}
 use Rattle.words.specs.declared.answer.Answer.{Answer}
 use Rattle.words.specs.declared.answer.Answer.the-variants.{Done, Refused}
-use Rattle.words.specs.Accepted.{matrixAnswer}
+use Rattle.words.specs.Accepted.{matrixAnswer, Accepted}
 use Rattle.parity.specs.ParityChecks.{ParityChecksOf}
 use Rattle.leaders.specs.declared.leaders.Leaders.{Leaders}
 
@@ -36,12 +36,14 @@ leadersList n k rows = tabulate (leaderOf n rows) (2 ^ (n - k))
 abbrev pub leadersTried : ℕ → ℕ → List ℕ → ℕ
 leadersTried n k rows = tried (syndromeOf n rows) (blanks (2 ^ (n - k))) (order n (suc (n - k)))
 
--- on success the parity-check rows are answered, on a refusal 0 at each entry; every syndrome of the matrix has a leader, the lightest
--- word of the coset, of several the smallest, no heavier than n - k, and the list holds it there; every later slot, and on a refusal
--- every slot, is as it was. The number of words tried is the place of the leader that comes last, by weight and then by number, and 0 on
--- a refusal
+-- causes 1 to 4 and 9, at 32 places never 3. Every syndrome of an accepted matrix has a leader, the lightest word of the coset, of several
+-- the smallest, no heavier than n - k, whatever room there is. On success the list holds it there, and the parity-check rows are answered, on
+-- a refusal 0 at each entry; every later slot, and on a refusal every slot, is as it was. The number of words tried is the place of the
+-- leader that comes last, by weight and then by number, and 0 on a refusal
 pub record LeadersOf (n k : ℕ) (rows before : List ℕ) (r : Leaders) (after : List ℕ) : Type 0 where
   pub answer : r .answer ≡ leadersAnswer n k rows (length before)
+  pub every-row : EveryRow n (r .answer)
+  pub every-leader : Accepted n k rows → EveryLeader n rows (n - k)
   pub checks : r .answer ≡ Done → ParityChecksOf n k rows (record { answer = r .answer; rows = r .checks })
   pub no-checks : (c : Refusal) → r .answer ≡ Refused c → r .checks ≡ zeros maxChecks
   pub list : after ≡ onDone (r .answer) (leadersList n k rows) before

@@ -17,11 +17,11 @@ use Rattle.coding.proofs.UniqueLaws.{reducedForm-unique}
 use Rattle.coding.proofs.WidthLaws.{inside-wide, reduce-wide, rows-zeros}
 use Rattle.coding.proofs.TraceLaws.{traced-at, trace-message}
 use Rattle.words.specs.Limits.{maxRows}
-use Rattle.words.specs.Refusal.{ifDone}
+use Rattle.words.specs.Refusal.{EveryRow, ifDone}
 use Rattle.words.specs.declared.answer.Refusal.{Refusal}
 use Rattle.words.specs.declared.answer.Answer.{Answer}
 use Rattle.words.specs.declared.answer.Answer.the-variants.{Done, Refused}
-use Rattle.words.proofs.AnswerLaws.{refused-done}
+use Rattle.words.proofs.AnswerLaws.{refused-done, never-done}
 use Rattle.words.specs.Accepted.{matrixAnswer, Accepted}
 use Rattle.linear.specs.ReducedRows.{ReducedRowsOf}
 use Rattle.linear.specs.Reduction.{MessagesByPivot, ReductionOf}
@@ -72,10 +72,11 @@ pub table-of : {n k : ℕ} {rows : List ℕ} {r : Reduction} → ReductionOf n k
 table-of R d = rw d at (R .table-is)
 
 -- the reduced rows of an accepted matrix are its reduced row echelon form, the only one
-pub reduced-rows : (n k : ℕ) (rows : List ℕ) (r : ReducedRows) → r .answer ≡ matrixAnswer n k rows
+pub reduced-rows : (n k : ℕ) (rows : List ℕ) → EveryRow n (matrixAnswer n k rows) → (r : ReducedRows) → r .answer ≡ matrixAnswer n k rows
     → r .rows ≡ ifDone (r .answer) (padded maxRows (reducedRows n rows)) (zeros maxRows) → ReducedRowsOf n k rows r
-reduced-rows n k rows r a e = record {
+reduced-rows n k rows w r a e = record {
   answer = a;
+  every-row = rw a w;
   rows-are = e;
   count = λ d. rows-are n k rows (accepted d);
   form = λ d. form d;
@@ -99,16 +100,16 @@ module _ (n k : ℕ) (rows : List ℕ) (r : Reduction) where
   pub reduction-done : Accepted n k rows → r .answer ≡ Done → r .rows ≡ padded maxRows (reducedRows n rows) → r .table ≡ reduce 32 rows
       → Traced rows (r .messages) (reduce 32 rows) → ReductionOf n k rows r
   reduction-done A d e t m = record {
-    reduced = reduced-rows n k rows _ (d ∙ sym (in-accepted n k rows A)) (rw d e);
+    reduced = reduced-rows n k rows (λ _. rw (in-accepted n k rows A) (never-done 3)) _ (d ∙ sym (in-accepted n k rows A)) (rw d e);
     table-is = rw d t;
     messages = record { are = rw d (beside-are n k rows A (r .messages) m); by-pivot = λ _. by-pivot-is n k rows A; traced = λ _. m };
   }
 
   -- a refusal has 0 in every other part
-  pub reduction-refused : (c : Refusal) → r .answer ≡ Refused c → (r .rows ≡ zeros maxRows) × (r .table ≡ zeros 32) × (r .messages ≡ zeros 32)
+  pub reduction-refused : EveryRow n (matrixAnswer n k rows) → (c : Refusal) → r .answer ≡ Refused c → (r .rows ≡ zeros maxRows) × (r .table ≡ zeros 32) × (r .messages ≡ zeros 32)
       → matrixAnswer n k rows ≡ Refused c → ReductionOf n k rows r
-  reduction-refused c e (x, y, z) m = record {
-    reduced = reduced-rows n k rows _ (e ∙ sym m) (rw e x);
+  reduction-refused w c e (x, y, z) m = record {
+    reduced = reduced-rows n k rows w _ (e ∙ sym m) (rw e x);
     table-is = rw e y;
     messages = messages-refused n rows (r .answer) (r .messages) c e z;
   }

@@ -4,8 +4,7 @@ use mathlib.Core.List.{List}
 use Prim.Native.Nat.{ℕ}
 use lib.ListN.{take}
 use Rattle.coding.specs.Matrix.{Independent, Depends}
-use Rattle.words.specs.Limits.{width}
-use Rattle.words.specs.Refusal.{Never}
+use Rattle.words.specs.Refusal.{EveryRow}
 use Rattle.words.specs.Accepted.{matrixAnswer, Accepted}
 use Rattle.words.specs.declared.answer.Refusal.the-variants.{Dependent}
 use Rattle.words.specs.declared.answer.Answer.{Answer}
@@ -17,5 +16,5 @@ pub record Judged (n k : ℕ) (rows : List ℕ) (r : Answer) : Type 0 where
   pub answer : r ≡ matrixAnswer n k rows
   pub accepted : r ≡ Done → Accepted n k rows
   pub accepts : Accepted n k rows → r ≡ Done
-  pub every-word : n ≡ width → Never 3 r
+  pub every-row : EveryRow n r
   pub found : (i : ℕ) → r ≡ Refused (Dependent i) → Depends rows i × Independent (take i rows)

@@ -13,7 +13,7 @@ use Rattle.coding.proofs.ListLaws.{map-same}
 use Rattle.coding.proofs.CheckRowLaws.{free-places, check-rows}
 use Rattle.coding.proofs.WidthLaws.{column-zeros}
 use Rattle.words.specs.Limits.{maxChecks}
-use Rattle.words.specs.Refusal.{ifDone}
+use Rattle.words.specs.Refusal.{EveryRow, ifDone}
 use Rattle.words.specs.declared.answer.Answer.the-variants.{Done}
 use Rattle.words.specs.Accepted.{matrixAnswer, Accepted}
 use Rattle.words.proofs.AcceptedLaws.{accepted-in}
@@ -36,10 +36,11 @@ module _ (n k : ℕ) (rows : List ℕ) (A : Accepted n k rows) (table : List ℕ
       same q = ap (λ (x : ℕ). 2 ^ q ⊕ x) (ap (λ (l : List ℕ). column l q) (wide n k rows A table is) ∙ column-zeros (reduce n rows) (32 - n) q)
 
 -- the check rows of an accepted matrix are those of its places that are no pivot, and tell the codewords
-pub parity-checks : (n k : ℕ) (rows : List ℕ) (r : ParityChecks) → r .answer ≡ matrixAnswer n k rows
+pub parity-checks : (n k : ℕ) (rows : List ℕ) → EveryRow n (matrixAnswer n k rows) → (r : ParityChecks) → r .answer ≡ matrixAnswer n k rows
     → r .rows ≡ ifDone (r .answer) (padded maxChecks (checks n rows)) (zeros maxChecks) → ParityChecksOf n k rows r
-parity-checks n k rows r a e = record {
+parity-checks n k rows w r a e = record {
   answer = a;
+  every-row = rw a w;
   rows-are = e;
   count = λ d. frees-are n k rows (accepted d);
   free = λ d. free-places n rows (accepted d .inside);

@@ -3,17 +3,16 @@
 use mathlib.Core.Path.{_≡_, refl, sym, subst, ap, _∙_}
 use mathlib.Core.List.{List, [], _∷_, _++_, map}
 use Prim.Native.Nat.{ℕ, _*_, _%_, _^_, _-_, _≤_, _<_, min}
-use native.Mathlib.Decide.{decLe}
 use native.Mathlib.Omega.{arith}
 use lib.ListN.{length, getD, take, drop, replicate, length-map, length-take, List·getD-append}
-use lib.Seq.{take-all, drop-length, getD-take}
+use lib.Seq.{drop-length, getD-take}
 use Rattle.coding.specs.Lists.{tabulate}
 use Rattle.coding.specs.Word.{_⊕_, parity}
 use Rattle.coding.specs.Check.{syndrome}
-use Rattle.coding.proofs.ListLaws.{getD-map, tabulate-map}
+use Rattle.coding.proofs.ListLaws.{getD-map, take-most, tabulate-map}
 use Rattle.coding.proofs.WeightLaws.{parity-lt}
 use Rattle.coding.proofs.CheckLaws.{places-joined, places-bit, syndrome-lt}
-use Rattle.parity.specs.Syndromes.{SyndromesOf}
+use Rattle.parity.specs.Syndromes.{SyndromeOf, SyndromesOf}
 use Rattle.parity.specs.Inner.Joined.{joinedBy}
 
 -- ---- the digits by the check rows from j on are joined
@@ -44,12 +43,19 @@ rows-joined checks words list after j few h k s a = a ∙ ap (tabulate digits) s
 
 -- ---- what the slots hold
 
+-- the syndrome of the definition has 01's bits
+pub syndrome-of : (checks : List ℕ) (w s : ℕ) → s ≡ syndrome checks w → SyndromeOf checks w s
+syndrome-of checks w s e = record {
+  is = e;
+  bits = λ j h. rw e (places-bit (parity w) (parity-lt w) checks j h);
+  no-more = rw e (syndrome-lt checks w);
+}
+
 pub syndromes-of : (checks words before after : List ℕ) → after ≡ map (syndrome checks) (take (length before) words) ++ drop (length words) before
     → SyndromesOf checks words before after
 syndromes-of checks words before after e = record {
   slots = e;
-  bits = λ i j h k l. rw (slot i h k) (places-bit (parity (getD words i 0)) (parity-lt (getD words i 0)) checks j l);
-  no-more = λ i h k. rw (slot i h k) (syndrome-lt checks (getD words i 0));
+  each = λ i h k. syndrome-of checks (getD words i 0) (getD after i 0) (slot i h k);
 }
   where
     slot : (i : ℕ) → i < length words → i < length before → getD after i 0 ≡ syndrome checks (getD words i 0)
@@ -59,14 +65,6 @@ syndromes-of checks words before after e = record {
         ap (λ (x : List ℕ). getD x i 0) e
         ∙ List·getD-append (map (syndrome checks) first) (drop (length words) before) 0 i (rw (length-map first (syndrome checks)) l)
         ∙ getD-map (syndrome checks) first i l ∙ ap (syndrome checks) (getD-take (length before) words i 0 k)
-
--- the first c entries, as many as there are
-take-most : (l : List ℕ) (c m : ℕ) → m ≡ min c (length l) → take m l ≡ take c l
-take-most l c m e = go (decLe c (length l))
-  where
-    go : Dec (c ≤ length l) → take m l ≡ take c l
-    go (yes h) = let s : m ≡ c = omega arith in ap (λ (x : ℕ). take x l) s
-    go (no h) = take-all m l (omega arith) ∙ sym (take-all c l (omega arith))
 
 -- by the first c check rows, as many as there are
 pub syndromes-first : (checks words before after : List ℕ) (c m : ℕ) → m ≡ min c (length checks) → SyndromesOf (take m checks) words before after

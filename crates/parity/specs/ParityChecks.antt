@@ -9,7 +9,7 @@ use Rattle.coding.specs.Matrix.{Codeword}
 use Rattle.coding.specs.Reduce.{reducedRows, pivots}
 use Rattle.coding.specs.Check.{checks, frees, FreePlaces, CheckRow, syndrome}
 use Rattle.words.specs.Limits.{maxChecks}
-use Rattle.words.specs.Refusal.{ifDone}
+use Rattle.words.specs.Refusal.{EveryRow, ifDone}
 use Rattle.words.specs.Accepted.{matrixAnswer}
 use Rattle.linear.specs.ReducedRows.{ReducedRowsOf}
 use Rattle.linear.specs.Reduction.{MessagesByPivot}
@@ -17,10 +17,11 @@ use Rattle.words.specs.declared.answer.Answer.the-variants.{Done}
 use Rattle.parity.specs.declared.check.ParityChecks.{ParityChecks}
 use Rattle.parity.specs.declared.check.Code.{Code}
 
--- causes 1 to 4; the n - k check rows and 0 after them, or 0 at every entry; and for an accepted matrix they are the check rows of
+-- causes 1 to 4, at 32 places never 3; the n - k check rows and 0 after them, or 0 at every entry; and for an accepted matrix they are the check rows of
 -- its places that are no pivot, and a word of n places is a codeword exactly when its syndrome by them is 0
 pub record ParityChecksOf (n k : ℕ) (rows : List ℕ) (r : ParityChecks) : Type 0 where
   pub answer : r .answer ≡ matrixAnswer n k rows
+  pub every-row : EveryRow n (r .answer)
   pub rows-are : r .rows ≡ ifDone (r .answer) (padded maxChecks (checks n rows)) (zeros maxChecks)
   pub count : r .answer ≡ Done → length (frees n rows) + k ≡ n
   pub free : r .answer ≡ Done → FreePlaces n (pivots n rows) (frees n rows)

@@ -18,6 +18,7 @@ ghost use Rattle.coding.specs.Check.{column, check, syndrome};
 ghost use Rattle.words.specs.Limits.{maxChecks, width};
 ghost use Rattle.parity.specs.CheckColumns.{columnsOf};
 ghost use Rattle.parity.specs.ParityChecks.{CodeOf, ParityChecksOf};
+ghost use Rattle.parity.specs.Syndromes.{SyndromeOf};
 
 // The answer to a matrix, and where it is accepted its n - k check rows; 0 at every other entry.
 pub struct ParityChecks {
@@ -40,7 +41,7 @@ fn parities(checks: &[u32], w: u32) -> u32
 
 // Bit j is the parity of the word's places where check row j has a 1; a row that is 0 has parity 0.
 pub fn syndrome(checks: &[u32; MAX_CHECKS], w: u32) -> u32
-    ensures { λ r. ⌜ r ≡ syndrome (now (checks .entry)) w ⌝ }
+    ensures { λ r. ⌜ SyndromeOf (now (checks .entry)) w r ⌝ }
 {
     parities(checks, w)
 }

@@ -6,6 +6,7 @@ use Prim.Native.Nat.{ℕ, _+_, _-_, _*_}
 use native.Mathlib.Decide.{ℕ-discrete}
 use lib.Dec.{eqb}
 use lib.ListN.{length, take}
+use Rattle.words.specs.Limits.{width}
 use Rattle.outcomes.specs.declared.ending.Outcome.{Outcome}
 use Rattle.outcomes.specs.declared.ending.Outcome.the-variants.{Clean, Mended, Far}
 use Rattle.sheet.specs.Sheet.{sheetOf}
@@ -63,6 +64,17 @@ pub record ClosingShows (sheet out : List ℕ) : Type 0 where
   pub adds : let t = tallyOf (map (λ line. shown (afterBlank line)) words) in t .clean + t .mended + t .far ≡ length words
   pub received : (h : Sheet) → sheetOf sheet ≡ Read h → length words ≡ h .words .count
 
+-- the output begins with a text
+abbrev pub Begins : (text out : List ℕ) → Type 0
+Begins text out = take (length text) out ≡ text
+
 -- so it is in every output that is no refusal
 abbrev pub Closed : (sheet out : List ℕ) → Type 0
-Closed sheet out = (take 7 out ≡ written "refused" → ⊥) → ClosingShows sheet out
+Closed sheet out = (Begins (written "refused") out → ⊥) → ClosingShows sheet out
+
+-- ---- a refusal
+
+-- 02, No. 7: of a sheet with n = 32 no row and no word is refused
+abbrev pub EveryWordShown : (sheet out : List ℕ) → Type 0
+EveryWordShown sheet out =
+    (h : Sheet) → sheetOf sheet ≡ Read h → h .n ≡ width → (Begins (written "refused 3 ") out → ⊥) × (Begins (written "refused 7 ") out → ⊥)

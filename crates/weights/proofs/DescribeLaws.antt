@@ -21,9 +21,10 @@ use Rattle.coding.proofs.ListLaws.{length-tabulate, getD-tabulate}
 use Rattle.coding.proofs.CountLaws.{count-none, count-some}
 use Rattle.coding.proofs.LightestCodewordLaws.{lightest-only, lightest-one-code}
 use Rattle.coding.proofs.WeightCountLaws.{weightCount-messages, weightCounts-total}
+use Rattle.words.specs.Refusal.{EveryRow}
 use Rattle.words.specs.declared.answer.Refusal.{Refusal}
 use Rattle.words.specs.declared.answer.Answer.the-variants.{Done, Refused}
-use Rattle.words.proofs.AnswerLaws.{refused-done}
+use Rattle.words.proofs.AnswerLaws.{refused-done, never-done}
 use Rattle.words.specs.Accepted.{matrixAnswer, Accepted}
 use Rattle.words.proofs.AcceptedLaws.{in-accepted}
 use Rattle.words.proofs.CodeLaws.{distance-is}
@@ -115,6 +116,7 @@ module _ (n k : ℕ) (rows : List ℕ) (A : Accepted n k rows) (w : Walk) (W : W
   pub walked-weights : WeightsOf n k rows (record { answer = Done; dmin = w .least; counts = w .counts; lightest = w .lightest })
   walked-weights = record {
     answer = sym (in-accepted n k rows A);
+    every-row = λ _. never-done 3;
     dmin-is = least-is;
     counts-are = counts-are;
     distance = λ _. D;
@@ -125,10 +127,11 @@ module _ (n k : ℕ) (rows : List ℕ) (A : Accepted n k rows) (w : Walk) (W : W
   }
 
 -- on a refusal every other part is 0
-pub refused-weights : (n k : ℕ) (rows : List ℕ) (r : Weights) (c : Refusal) → r .answer ≡ Refused c → matrixAnswer n k rows ≡ Refused c
+pub refused-weights : (n k : ℕ) (rows : List ℕ) → EveryRow n (matrixAnswer n k rows) → (r : Weights) (c : Refusal) → r .answer ≡ Refused c → matrixAnswer n k rows ≡ Refused c
     → (r .dmin ≡ 0) × (r .counts ≡ zeros 33) × (r .lightest ≡ 0) → WeightsOf n k rows r
-refused-weights n k rows r c e m (x, y, z) = record {
+refused-weights n k rows w r c e m (x, y, z) = record {
   answer = e ∙ sym m;
+  every-row = rw (e ∙ sym m) w;
   dmin-is = rw e x;
   counts-are = rw e y;
   distance = λ d. refused-done (sym e ∙ d);

@@ -6,7 +6,7 @@ use Rattle.coding.specs.Lists.{zeros, padded, total}
 use Rattle.coding.specs.Matrix.{SameCode}
 use Rattle.coding.specs.Weight.{weightCounts, dmin, MinimumDistance, lightestCodeword, Lightest}
 use Rattle.words.specs.Limits.{weightSlots}
-use Rattle.words.specs.Refusal.{ifDone}
+use Rattle.words.specs.Refusal.{EveryRow, ifDone}
 use Rattle.words.specs.Accepted.{matrixAnswer}
 use Rattle.linear.specs.ReducedRows.{ReducedRowsOf}
 use Rattle.parity.specs.ParityChecks.{ParityChecksOf}
@@ -14,12 +14,13 @@ use Rattle.words.specs.declared.answer.Answer.the-variants.{Done}
 use Rattle.weights.specs.declared.weights.Weights.{Weights}
 use Rattle.weights.specs.declared.description.Description.{Description}
 
--- causes 1 to 4; for an accepted matrix the minimum distance and the counts of the definitions (0 past n), which is the least weight
+-- causes 1 to 4, at 32 places never 3; for an accepted matrix the minimum distance and the counts of the definitions (0 past n), which is the least weight
 -- of a nonzero codeword and the least distance of two codewords; the counts add to 2 ^ k; and the lightest codeword of the definition,
 -- which is the smallest number among the nonzero codewords of that weight, and the same for every matrix of the code. On a refusal every
 -- other part is 0
 pub record WeightsOf (n k : ℕ) (rows : List ℕ) (r : Weights) : Type 0 where
   pub answer : r .answer ≡ matrixAnswer n k rows
+  pub every-row : EveryRow n (r .answer)
   pub dmin-is : r .dmin ≡ ifDone (r .answer) (dmin rows) 0
   pub counts-are : r .counts ≡ ifDone (r .answer) (padded weightSlots (weightCounts n rows)) (zeros weightSlots)
   pub distance : r .answer ≡ Done → MinimumDistance n rows (dmin rows)

@@ -12,10 +12,10 @@ use Rattle.coding.specs.Matrix.{Inside, Independent, Depends, dependsAt}
 use Rattle.coding.proofs.DependLaws.{firstDependent, dependent-is, dependent-there, dependent-before, dependent-independent, none-independent, independent-none}
 use Rattle.coding.proofs.SearchLaws.{first-le}
 use Rattle.words.specs.Limits.{width, inRange}
-use Rattle.words.specs.Refusal.{unless, andThen}
+use Rattle.words.specs.Refusal.{unless, andThen, Between, EveryRow}
 use Rattle.words.specs.Shape.{firstOutside, shapeAnswer}
 use Rattle.words.proofs.AnswerLaws.{first-refused, first-passes, first-done, andThen-done}
-use Rattle.words.proofs.AnswerLaws.{Numbered, Between, Neither, neither, unless-numbered, andThen-numbered}
+use Rattle.words.proofs.AnswerLaws.{Numbered, Neither, neither, unless-numbered, andThen-numbered, never}
 use Rattle.words.proofs.ShapeLaws.{shape-in, in-shape, shape-passes}
 use Rattle.words.specs.Accepted.{matrixAnswer, Accepted}
 use Rattle.words.specs.declared.answer.Refusal.{Refusal}
@@ -89,9 +89,12 @@ matrix-numbered n k rows =
     (unless-numbered (Between 1 4) (eqb (firstOutside n rows) (length rows)) (RowOutside (firstOutside n rows)) Done (omega arith, omega arith) tt)))
     (unless-numbered (Between 1 4) (eqb (firstDependent rows) (length rows)) (Dependent (firstDependent rows)) Done (omega arith, omega arith) tt)
 
--- 02, No. 7: at 32 places never 3
+-- 02, No. 7: at 32 places neither 3 nor 7
 pub matrix-passes : (n k : ℕ) (rows : List ℕ) → n ≡ width → Inside width rows → Numbered (Neither 3 7) (matrixAnswer n k rows)
 unfolding matrixAnswer
 matrix-passes n k rows e f =
     rw e (andThen-numbered (Neither 3 7) (shapeAnswer width k rows) _ (shape-passes k rows f)
     (unless-numbered (Neither 3 7) (eqb (firstDependent rows) (length rows)) (Dependent (firstDependent rows)) Done (neither 3 7 4 refl refl) tt))
+
+pub matrix-every-row : (n k : ℕ) (rows : List ℕ) → Inside width rows → EveryRow n (matrixAnswer n k rows)
+matrix-every-row n k rows f e = never 3 7 _ _ refl (matrix-passes n k rows e f) .0

@@ -3,13 +3,13 @@ use mathlib.Core.Path.{_≡_, refl, ap, sym, _∙_}
 use mathlib.Core.Logic.{_≢_}
 use mathlib.Core.List.{List, _++_, map}
 use mathlib.Core.Bool.{Bool, true, false}
-use Prim.Native.Nat.{ℕ, _+_, _≤_}
+use Prim.Native.Nat.{ℕ, _+_}
 use native.Mathlib.Omega.{arith}
 use lib.Dec.{eqb}
 use lib.ListN.{length, drop, length-map}
 use borrow.Author.Tests.{eqb-true, eqb-false, eq-eqb, ne-eqb}
 use Rattle.coding.specs.Lists.{first}
-use Rattle.words.specs.Refusal.{numberOf, unless, refuseFirst, andThen, Never, onDone}
+use Rattle.words.specs.Refusal.{numberOf, unless, refuseFirst, andThen, Never, EveryRow, onDone}
 use Rattle.words.specs.declared.answer.Refusal.{Refusal}
 use Rattle.words.specs.declared.answer.Answer.{Answer}
 use Rattle.words.specs.declared.answer.Answer.the-variants.{Done, Refused}
@@ -60,10 +60,6 @@ abbrev pub Numbered : (ℕ → Type 0) → Answer → Type 0
 Numbered P Done = Unit {0}
 Numbered P (Refused c) = P (numberOf c)
 
--- such as to lie from a to b
-abbrev pub Between : ℕ → ℕ → ℕ → Type 0
-Between a b m = (a ≤ m) × (m ≤ b)
-
 module _ (P : ℕ → Type 0) where
   pub unless-numbered : (b : Bool) (c : Refusal) (later : Answer) → P (numberOf c) → Numbered P later → Numbered P (unless b c later)
   unless-numbered true c later h f = f
@@ -91,6 +87,23 @@ never a b answer r e h = (λ c d. (rw (sym e ∙ d) at h) .0, λ c d. (rw (sym e
 
 pub never-done : (m : ℕ) → Never m Done
 never-done m c e = refused-done (sym e)
+
+-- or under one that lacks the property
+pub never-of : (P : ℕ → Type 0) (m : ℕ) → (P m → ⊥) → (a : Answer) → Numbered P a → Never m a
+never-of P m f a h c e z = f (rw z at (rw e at h))
+
+-- the first group never gives the number, nor does the next
+pub then-never : (m : ℕ) (a later : Answer) → Never m a → Never m later → Never m (andThen a later)
+then-never m Done later f g = g
+then-never m (Refused c) later f g = f
+
+-- 02, No. 7: an answer that is named in another way
+pub every-row-of : {n : ℕ} (r answer : Answer) → r ≡ answer → EveryRow n r → EveryRow n answer
+every-row-of r answer e f w = rw e at (f w)
+
+-- and 3 is a cause of the first group alone
+pub rows-first : (n : ℕ) (a later r : Answer) → r ≡ andThen a later → EveryRow n a → Never 3 later → EveryRow n r
+rows-first n a later r e f g w = rw e (then-never 3 a later (f w) g)
 
 -- ---- what an answer leaves in a lent list
 

@@ -12,7 +12,7 @@ use Rattle.coding.specs.Matrix.{encode, Codeword, messageOf, IsMessage}
 use Rattle.coding.specs.Reduce.{reduce, reducedRows}
 use Rattle.coding.specs.Check.{checks, frees, syndrome}
 use Rattle.coding.specs.Weight.{dmin, MinimumDistance}
-use Rattle.coding.specs.Leader.{syndromeOf, IsLeader, leaderOf}
+use Rattle.coding.specs.Leader.{syndromeOf, IsLeader, EveryLeader, leaderOf}
 use Rattle.coding.proofs.ReduceLaws.{whole}
 use Rattle.coding.proofs.CheckRowLaws.{syndrome-codeword}
 use Rattle.coding.proofs.EliminateLaws.{check-count}
@@ -77,6 +77,9 @@ module _ (n k : ℕ) (rows : List ℕ) (A : Accepted n k rows) where
   -- no leader is heavier than n - k
   pub light : (s : ℕ) → s < 2 ^ (n - k) → weight (leaderOf n rows s) ≤ n - k
   light s h = rw checks-are at (leader-light n rows (A .inside) s (rw checks-are h))
+
+  pub every-leader : EveryLeader n rows (n - k)
+  every-leader s h = (leaderOf n rows s, leader-at s h, light s h)
 
   -- so that no count is 255
   pub leader-weight : (w : ℕ) → weight (leaderOf n rows (syndromeOf n rows w)) ≤ n - k

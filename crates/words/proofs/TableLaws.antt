@@ -15,7 +15,7 @@ use borrow.Author.Tests.{le-ltb, ne-eqb}
 use Rattle.coding.specs.Lists.{first, tabulate}
 use Rattle.coding.specs.Word.{_⊕_}
 use Rattle.coding.specs.Matrix.{encode}
-use Rattle.coding.proofs.ListLaws.{getD-map, length-tabulate, getD-tabulate, tabulate-map}
+use Rattle.coding.proofs.ListLaws.{getD-map, take-most, drop-most, length-tabulate, getD-tabulate, tabulate-map}
 use Rattle.coding.proofs.MatrixLaws.{encode-zero, encode-top, encode-group}
 use Rattle.coding.proofs.SearchLaws.{first-same}
 use Rattle.words.specs.Shape.{outside, firstOutside}
@@ -122,17 +122,8 @@ group-added rows words sums table after i e h k few s t a = a ∙ ap (tabulate a
 -- as many words as there are slots, and the slots behind them
 pub as-many : (f : ℕ → ℕ) (words out : List ℕ) (m : ℕ) → m ≡ min (length words) (length out)
     → map f (take m words) ++ drop m out ≡ map f (take (length out) words) ++ drop (length words) out
-as-many f words out m e = go (decLe (length words) (length out))
-  where
-    go : Dec (length words ≤ length out) → map f (take m words) ++ drop m out ≡ map f (take (length out) words) ++ drop (length words) out
-    go (yes h) =
-        let l : m ≡ length words = omega arith in
-        ap₂ (λ (x : List ℕ) (y : ℕ). map f x ++ drop y out) (take-all m words (omega arith) ∙ sym (take-all (length out) words h)) l
-    go (no h) =
-        let l : m ≡ length out = omega arith in
-        let short : length out ≤ m = omega arith in
-        let shorter : length out ≤ length words = omega arith in
-        ap₂ (λ (x : ℕ) (y : List ℕ). map f (take x words) ++ y) l (drop-of-length-le out short ∙ sym (drop-of-length-le out shorter))
+as-many f words out m e =
+    ap₂ (λ (x y : List ℕ). map f x ++ y) (take-most words (length out) m (omega arith)) (drop-most out (length words) m e)
 
 -- where there is a slot for each word, all are summed
 pub enough-slots : (f : ℕ → ℕ) (words out : List ℕ) → length words ≤ length out

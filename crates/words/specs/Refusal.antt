@@ -3,10 +3,11 @@ use mathlib.Core.Path.{_≡_}
 use mathlib.Core.Logic.{_≢_}
 use mathlib.Core.List.{List, _++_}
 use mathlib.Core.Bool.{Bool, true, false}
-use Prim.Native.Nat.{ℕ}
+use Prim.Native.Nat.{ℕ, _≤_}
 use lib.Dec.{eqb}
 use lib.ListN.{length, drop}
 use Rattle.coding.specs.Lists.{first}
+use Rattle.words.specs.Limits.{width}
 use Rattle.words.specs.declared.answer.Refusal.{Refusal}
 use Rattle.words.specs.declared.answer.Refusal.the-variants.{OutOfRange, RowCount, RowOutside, Dependent, RadiusTooLarge, TooManyWords, WordOutside, ShortOutput, ShortWork, NoCodeword, NoWidth, BeyondWidth, NoDepth, NoBits}
 use Rattle.words.specs.declared.answer.Answer.{Answer}
@@ -59,9 +60,21 @@ abbrev pub andThen : Answer → Answer → Answer
 andThen Done later = later
 andThen (Refused c) later = Refused c
 
+-- a number from a to b
+abbrev pub Between : ℕ → ℕ → ℕ → Type 0
+Between a b m = (a ≤ m) × (m ≤ b)
+
 -- the answer is no refusal under this number
 abbrev pub Never : ℕ → Answer → Type 0
 Never m r = (c : Refusal) → r ≡ Refused c → numberOf c ≢ m
+
+-- 02, No. 7: at 32 places every number of 32 bits is a word, so that no row is refused under 3
+abbrev pub EveryRow : ℕ → Answer → Type 0
+EveryRow n r = n ≡ width → Never 3 r
+
+-- and where words of n places are taken, none under 7
+abbrev pub EveryWord : ℕ → Answer → Type 0
+EveryWord n r = n ≡ width → Never 3 r × Never 7 r
 
 -- a lent list at the end: the new entries and every later slot as it was, or all as it was
 abbrev pub onDone : Answer → List ℕ → List ℕ → List ℕ

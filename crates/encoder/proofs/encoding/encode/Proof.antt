@@ -3,10 +3,11 @@ use mathlib.Core.Path.{_≡_, sym, _∙_}
 use lib.ListN.{length}
 use borrow.Author.Needs.{needs}
 use Rattle.coding.specs.Matrix.{encode}
+use Rattle.words.specs.Refusal.{EveryRow}
 use Rattle.words.specs.Accepted.{matrixAnswer}
 use Rattle.words.specs.Lists.{listAnswer}
 use Rattle.words.specs.declared.answer.Answer.the-variants.{Done}
-use Rattle.words.proofs.AnswerLaws.{stays, goes, kept, written}
+use Rattle.words.proofs.AnswerLaws.{stays, goes, every-row-of, kept, written}
 use Rattle.words.proofs.WordListLaws.{list-in}
 use Rattle.words.proofs.TableLaws.{enough-slots}
 use Rattle.encoder.proofs.EncoderLaws.{encoded}
@@ -15,6 +16,11 @@ use Rattle.encoder.proofs.encoding.encode.Tie as tie
 
 abbrev start : tie.After-accept → tie.Start
 start c = c .before .before .before .before
+
+every-row : (c : tie.After-accept)
+    → let a = start c .args in
+    EveryRow (a .n) (matrixAnswer (a .n) (a .k) (a .rows .now))
+every-row c = every-row-of _ _ (c .accept .ensures .answer) (c .accept .ensures .every-row)
 
 -- causes 1 to 4 have passed
 abbrev start-passed : tie.After-list-cause → tie.Start
@@ -37,7 +43,7 @@ returns c =
     let a = start r .args in
     let e = c .enum-told2 .given .1 in
     let m = r .accept .ensures .answer in
-    encoded (a .n) (a .k) (a .rows .now) (a .messages .now) (a .out .now) (r .accept .result) (a .out .now)
+    encoded (a .n) (a .k) (a .rows .now) (a .messages .now) (a .out .now) (r .accept .result) (a .out .now) (every-row r)
     (m ∙ stays (matrixAnswer (a .n) (a .k) (a .rows .now)) _ _ (sym m ∙ e)) (kept (r .accept .result) _ e _ _)
 
 returns-2 : tie.Need-returns-2
@@ -45,14 +51,14 @@ returns-2 c =
     let r = c .before .before in
     let a = start-passed r .args in
     encoded (a .n) (a .k) (a .rows .now) (a .messages .now) (a .out .now) (r .list-cause .result) (a .out .now)
-    (r .list-cause .ensures ∙ goes (matrixAnswer (a .n) (a .k) (a .rows .now)) _ (passed r)) (kept (r .list-cause .result) _ (c .enum-told4 .given .1) _ _)
+    (every-row (r .before .before .before)) (r .list-cause .ensures ∙ goes (matrixAnswer (a .n) (a .k) (a .rows .now)) _ (passed r)) (kept (r .list-cause .result) _ (c .enum-told4 .given .1) _ _)
 
 returns-3 : tie.Need-returns-3
 returns-3 c =
     let q = c .before .before in
     let t = q .before .before in
     let a = start-passed (t .before .before) .args in
-    encoded (a .n) (a .k) (a .rows .now) (a .messages .now) (a .out .now) _ _
+    encoded (a .n) (a .k) (a .rows .now) (a .messages .now) (a .out .now) _ _ (every-row (t .before .before .before .before .before))
     (sym (listed t) ∙ goes (matrixAnswer (a .n) (a .k) (a .rows .now)) _ (passed (t .before .before)))
     (written (encode (a .rows .now)) (a .messages .now) (a .out .now) _
     (q .row-sums .ensures ∙ enough-slots (encode (a .rows .now)) (a .messages .now) (a .out .now) (list-in (a .messages .now) (a .k) _ (listed t) .room)))

@@ -18,10 +18,8 @@ outcome-at-requires c κs = refl
 returns : tie.Need-returns
 returns c =
     let s = c .before .before .syndrome .ensures in
-    let w = c .before .before .before .args .w in (
-      c .outcome-at .ensures ∙ ap₂ (λ (l : List ℕ) (x : ℕ). outcomeAt 8 l w x) (take-all 64 columns (le-of-eq columns-length)) (s .sum),
-      s .places,
-    )
+    let w = c .before .before .before .args .w in
+    c .outcome-at .ensures ∙ ap₂ (λ (l : List ℕ) (x : ℕ). outcomeAt 8 l w x) (take-all 64 columns (le-of-eq columns-length)) (s .sum)
 
 pub outcome-of-spec : {M : Type 1} → statement M
 outcome-of-spec = tie.close (tie.spec (λ c κs. search needs) outcome-at-requires returns)

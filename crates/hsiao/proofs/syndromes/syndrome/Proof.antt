@@ -5,7 +5,7 @@ use Rattle.coding.specs.Word.{_⊕_}
 use Rattle.coding.specs.Columns.{SplitPlaces}
 use Rattle.coding.proofs.LinearLaws.{identity-rows}
 use Rattle.hsiao.specs.Table.{columns, split, syndromeOf}
-use Rattle.hsiao.proofs.HsiaoTableLaws.{columns-length}
+use Rattle.hsiao.proofs.HsiaoTableLaws.{word-places}
 use borrow.Author.Needs.{needs}
 use Rattle.hsiao.proofs.syndromes.syndrome.Statement.{statement}
 use Rattle.hsiao.proofs.syndromes.syndrome.Tie as tie
@@ -15,13 +15,9 @@ returns c =
     let w = c .before .before .args .w in
     let fit = c .struct-known .given in
     let h : w .check < 2 ^ 8 = fit .0 .fits in
-    let places : SplitPlaces 8 columns (split w) = record { check = h; info = rw columns-length (fit .1 .0 .fits) } in
+    let places : SplitPlaces 8 columns (split w) = word-places w h (fit .1 .0 .fits) in
     let e : w .check ⊕ c .before .column-sum .result ≡ syndromeOf w = ap₂ _⊕_ (sym (identity-rows 8 (w .check) h)) (c .before .column-sum .ensures) in
-    record {
-      places = places;
-      sum = e;
-      codeword = ((λ z. record { places = places; zero-syndrome = sym e ∙ z }), λ C. e ∙ C .zero-syndrome);
-    }
+    record { sum = e; codeword = ((λ z. record { places = places; zero-syndrome = sym e ∙ z }), λ C. e ∙ C .zero-syndrome) }
 
 pub syndrome-spec : {M : Type 1} → statement M
 syndrome-spec = tie.close (tie.spec (λ c κs. search needs) returns)

@@ -14,14 +14,14 @@ returns : tie.Need-returns
 returns c =
     let r = c .before .before in
     let a = start r .args in
-    r .code-cause .ensures
-    ∙ stays (codeAnswer (a .n) (a .k) (a .rows .now) (Within (a .radius))) _ _ (sym (r .code-cause .ensures) ∙ c .enum-told2 .given .1)
+    r .code-cause .ensures .answer
+    ∙ stays (codeAnswer (a .n) (a .k) (a .rows .now) (Within (a .radius))) _ _ (sym (r .code-cause .ensures .answer) ∙ c .enum-told2 .given .1)
 
 returns-2 : tie.Need-returns-2
 returns-2 c =
     let r = c .before .before in
     let a = start r .args in
-    goes (codeAnswer (a .n) (a .k) (a .rows .now) (Within (a .radius))) _ (sym (r .code-cause .ensures) ∙ c .enum-told .given .1)
+    goes (codeAnswer (a .n) (a .k) (a .rows .now) (Within (a .radius))) _ (sym (r .code-cause .ensures .answer) ∙ c .enum-told .given .1)
 
 pub after-code-spec : {M : Type 1} → statement M
 after-code-spec = tie.close (tie.spec (λ c κs. search needs) (λ c. search needs) (λ c. search needs) returns returns-2)

@@ -6,7 +6,10 @@ use lib.Seq.{take-at, length-take-le}
 use borrow.Author.Needs.{needs}
 use Rattle.coding.specs.Interleaving.{sortedWords}
 use Rattle.coding.proofs.InterleavingLaws.{sorted-long}
+use Rattle.words.specs.Refusal.{EveryRow}
+use Rattle.words.specs.Accepted.{matrixAnswer}
 use Rattle.words.specs.declared.answer.Answer.the-variants.{Done}
+use Rattle.words.proofs.AcceptedLaws.{matrix-every-row}
 use Rattle.decoder.specs.Decoded.{Lent}
 use Rattle.interleaving.specs.Causes.{bitsAnswer}
 use Rattle.interleaving.specs.Decoded.{Received}
@@ -23,6 +26,12 @@ lent s = record { codewords = s .args .out .now; counts = s .args .counts .now; 
 
 abbrev start : tie.After-slice-known3 → tie.Start
 start c = c .before .before .before .before .before
+
+-- the rows are numbers of 32 bits
+every-row : (c : tie.After-slice-known3)
+    → let a = start c .args in
+    EveryRow (a .n) (matrixAnswer (a .n) (a .k) (a .rows .now))
+every-row c = matrix-every-row _ _ _ (λ i h. c .before .before .before .before .shared-slice-known .given i .fits)
 
 abbrev asked : tie.After-bits-cause → tie.Start
 asked c = start (c .before .before)
@@ -49,7 +58,7 @@ returns : tie.Need-returns
 returns c =
     let s = start (c .before) in
     let a = s .args in
-    decode-refused (received s) (lent s) _ _ refl
+    decode-refused (received s) (lent s) (every-row (c .before)) _ _ refl
     (too-long (a .n) (a .k) (a .rows .now) (a .radius) (a .depth) (a .bits .now) _ _ _ (c .if1 .taken)) _ refl
 
 returns-2 : tie.Need-returns-2
@@ -58,7 +67,7 @@ returns-2 c =
     let s = asked r in
     let a = s .args in
     let e = c .before .enum-told2 .given .1 in
-    bits-refuse (received s) (lent s) _ _ _
+    bits-refuse (received s) (lent s) (every-row (r .before .before)) _ _ _
     (bits-refused (a .n) (a .k) (a .rows .now) (a .radius) (a .depth) (a .bits .now) _ _ _ _ _ _ (r .bits-cause .ensures) e (c .after-code .ensures))
     e (c .after-code .ensures)
 
@@ -89,7 +98,7 @@ returns-3 c =
     let d = decoded c in
     let w = d .before .before .before .before .before .before in
     let s = asked (sorted (w .before)) in
-    decode-ends (received s) (lent s) (right (w .before)) _ _ (decoded-of (words-are w) (d .decode .ensures))
+    decode-ends (received s) (lent s) (every-row (sorted (w .before) .before .before)) (right (w .before)) _ _ (decoded-of (words-are w) (d .decode .ensures))
 
 pub decode-spec : {M : Type 1} → statement M
 decode-spec =

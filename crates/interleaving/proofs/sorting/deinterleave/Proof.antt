@@ -3,11 +3,12 @@ use mathlib.Core.Path.{_≡_, sym, _∙_}
 use native.Mathlib.Omega.{arith}
 use lib.ListN.{length}
 use borrow.Author.Needs.{needs}
+use Rattle.words.specs.Refusal.{EveryRow}
 use Rattle.words.specs.Accepted.{matrixAnswer}
 use Rattle.words.specs.Lists.{roomAnswer}
 use Rattle.words.specs.declared.answer.Answer.the-variants.{Done}
 use Rattle.words.proofs.AcceptedLaws.{accepted-in}
-use Rattle.words.proofs.AnswerLaws.{stays, goes}
+use Rattle.words.proofs.AnswerLaws.{stays, goes, every-row-of}
 use Rattle.words.proofs.WordListLaws.{room-in}
 use Rattle.interleaving.specs.Causes.{bitsAnswer}
 use Rattle.interleaving.proofs.BitLaws.{bits-in}
@@ -17,6 +18,11 @@ use Rattle.interleaving.proofs.sorting.deinterleave.Tie as tie
 
 abbrev start : tie.After-accept → tie.Start
 start c = c .before .before .before .before
+
+every-row : (c : tie.After-accept)
+    → let a = start c .args in
+    EveryRow (a .n) (matrixAnswer (a .n) (a .k) (a .rows .now))
+every-row c = every-row-of _ _ (c .accept .ensures .answer) (c .accept .ensures .every-row)
 
 -- causes 1 to 4 have passed
 abbrev start-passed : tie.After-bits-cause → tie.Start
@@ -48,7 +54,7 @@ returns c =
     let a = start r .args in
     let e = c .enum-told2 .given .1 in
     let m = r .accept .ensures .answer in
-    deinterleave-refused (a .n) (a .k) (a .rows .now) (a .depth) (a .bits .now) (a .out .now) _ _ e
+    deinterleave-refused (a .n) (a .k) (a .rows .now) (a .depth) (a .bits .now) (a .out .now) (every-row r) _ _ e
     (m ∙ stays (matrixAnswer (a .n) (a .k) (a .rows .now)) _ _ (sym m ∙ e))
 
 returns-2 : tie.Need-returns-2
@@ -57,14 +63,14 @@ returns-2 c =
     let a = start-passed r .args in
     let e = c .enum-told4 .given .1 in
     let b = r .bits-cause .ensures in
-    deinterleave-refused (a .n) (a .k) (a .rows .now) (a .depth) (a .bits .now) (a .out .now) _ _ e
+    deinterleave-refused (a .n) (a .k) (a .rows .now) (a .depth) (a .bits .now) (a .out .now) (every-row (r .before .before .before)) _ _ e
     (b ∙ stays (bitsAnswer (a .n) (a .depth) (a .bits .now)) _ _ (sym b ∙ e) ∙ goes (matrixAnswer (a .n) (a .k) (a .rows .now)) _ (passed r))
 
 returns-3 : tie.Need-returns-3
 returns-3 c =
     let r = c .before .before in
     let a = start-right r .args in
-    deinterleave-refused (a .n) (a .k) (a .rows .now) (a .depth) (a .bits .now) (a .out .now) _ _ (c .enum-told6 .given .1)
+    deinterleave-refused (a .n) (a .k) (a .rows .now) (a .depth) (a .bits .now) (a .out .now) (every-row (r .before .before .before .before .before .before)) _ _ (c .enum-told6 .given .1)
     (r .room-cause .ensures ∙ goes (bitsAnswer (a .n) (a .depth) (a .bits .now)) _ (right r)
     ∙ goes (matrixAnswer (a .n) (a .k) (a .rows .now)) _ (passed (r .before .before .before)))
 
@@ -83,7 +89,7 @@ returns-4 c =
     let t = q .before .before in
     let r = t .before .before in
     let a = start-right r .args in
-    deinterleave-done (a .n) (a .k) (a .rows .now) (a .depth) (a .bits .now) (a .out .now) (passed (r .before .before .before)) (right r) (room t) _
+    deinterleave-done (a .n) (a .k) (a .rows .now) (a .depth) (a .bits .now) (a .out .now) (every-row (r .before .before .before .before .before .before)) (passed (r .before .before .before)) (right r) (room t) _
     (q .sort-words .ensures)
 
 pub deinterleave-spec : {M : Type 1} → statement M

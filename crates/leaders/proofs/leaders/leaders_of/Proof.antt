@@ -3,7 +3,9 @@ use mathlib.Core.Path.{refl, sym, _∙_}
 use native.Mathlib.Omega.{arith}
 use lib.ListN.{length}
 use borrow.Author.Needs.{needs}
-use Rattle.words.specs.Accepted.{Accepted}
+use Rattle.words.specs.Refusal.{EveryRow}
+use Rattle.words.specs.Accepted.{matrixAnswer, Accepted}
+use Rattle.words.proofs.AnswerLaws.{every-row-of}
 use Rattle.words.proofs.AcceptedLaws.{accepted-in}
 use Rattle.parity.proofs.CodeOfLaws.{checks-of, checks-done}
 use Rattle.leaders.proofs.LeaderPromiseLaws.{matrix-refuses, work-refuses, work-short, work-done, list-kept}
@@ -29,12 +31,17 @@ accepted t =
     let a = start p .args in
     accepted-in (a .n) (a .k) (a .rows .now) (sym (p .parity-checks .ensures .answer) ∙ t .enum-told .given .1)
 
+every-row : (p : tie.After-parity-checks)
+    → let a = start p .args in
+    EveryRow (a .n) (matrixAnswer (a .n) (a .k) (a .rows .now))
+every-row p = every-row-of _ _ (p .parity-checks .ensures .answer) (p .parity-checks .ensures .every-row)
+
 returns : tie.Need-returns
 returns c =
     let p = c .before .before .before in
     let a = start p .args in
     let e = c .before .enum-told2 .given .1 in
-    leaders-refused (a .n) (a .k) (a .rows .now) (a .list .now) _ refl _ _ (c .refused .ensures .0 ∙ e) (c .refused .ensures .1, c .refused .ensures .2)
+    leaders-refused (a .n) (a .k) (a .rows .now) (every-row p) (a .list .now) _ refl _ _ (c .refused .ensures .0 ∙ e) (c .refused .ensures .1, c .refused .ensures .2)
     (matrix-refuses (a .n) (a .k) (a .rows .now) (length (a .list .now)) _ (sym (p .parity-checks .ensures .answer) ∙ e))
 
 returns-2 : tie.Need-returns-2
@@ -43,7 +50,7 @@ returns-2 c =
     let a = start (t .before .before) .args in
     let f = filled (c .before .before) .fill-leaders in
     let d = c .before .if1 .taken in
-    leaders-refused (a .n) (a .k) (a .rows .now) (a .list .now) _ (list-kept (f .ensures) d) _ _ (c .refused2 .ensures .0)
+    leaders-refused (a .n) (a .k) (a .rows .now) (every-row (t .before .before)) (a .list .now) _ (list-kept (f .ensures) d) _ _ (c .refused2 .ensures .0)
     (c .refused2 .ensures .1, c .refused2 .ensures .2)
     (work-refuses (a .n) (a .k) (a .rows .now) (length (a .list .now)) (accepted t) (work-short (a .n) (a .k) (a .rows .now) (accepted t) (f .ensures) d))
 

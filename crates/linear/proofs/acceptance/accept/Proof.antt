@@ -1,7 +1,6 @@
 -- `linear::acceptance::accept`: the answer of the reduction, in the words of part 1. Assumes nothing.
 use mathlib.Core.Path.{sym, _∙_}
-use Rattle.words.proofs.AnswerLaws.{never}
-use Rattle.words.proofs.AcceptedLaws.{accepted-in, in-accepted, found-in, matrix-passes}
+use Rattle.words.proofs.AcceptedLaws.{accepted-in, in-accepted, found-in}
 use borrow.Author.Needs.{needs}
 use Rattle.linear.proofs.acceptance.accept.Statement.{statement}
 use Rattle.linear.proofs.acceptance.accept.Tie as tie
@@ -14,7 +13,7 @@ returns c =
       answer = e;
       accepted = λ d. accepted-in (a .n) (a .k) (a .rows .now) (sym e ∙ d);
       accepts = λ h. e ∙ in-accepted (a .n) (a .k) (a .rows .now) h;
-      every-word = λ w. never 3 7 _ _ e (matrix-passes (a .n) (a .k) (a .rows .now) w (λ i h. c .before .shared-slice-known .given i .fits)) .0;
+      every-row = c .reduce .ensures .reduced .every-row;
       found = λ i d. found-in (a .n) (a .k) (a .rows .now) i (sym e ∙ d);
     }
 

@@ -4,6 +4,7 @@ use Rattle.coding.specs.Lists.{padded}
 use Rattle.coding.specs.Reduce.{reduce}
 use Rattle.words.specs.Limits.{maxChecks}
 use Rattle.words.specs.Accepted.{Accepted}
+use Rattle.words.proofs.AnswerLaws.{every-row-of}
 use Rattle.words.proofs.AcceptedLaws.{accepted-in}
 use Rattle.linear.proofs.PivotTableLaws.{reduced-rows, messages-refused, table-size, table-of}
 use Rattle.parity.proofs.ParityLaws.{checks-few, checks-are, parity-checks}
@@ -29,9 +30,10 @@ returns c =
     let r = c .before .before in
     let a = r .before .before .args in
     let m = r .reduce .ensures .reduced .answer in
+    let w = every-row-of _ _ m (r .reduce .ensures .reduced .every-row) in
     record {
-      reduced = reduced-rows (a .n) (a .k) (a .rows .now) _ m (rw e refl);
-      checks = parity-checks (a .n) (a .k) (a .rows .now) _ m (rw e refl);
+      reduced = reduced-rows (a .n) (a .k) (a .rows .now) w _ m (rw e refl);
+      checks = parity-checks (a .n) (a .k) (a .rows .now) w _ m (rw e refl);
       messages = messages-refused (a .n) (a .rows .now) _ _ _ e refl;
     }
 
@@ -50,7 +52,7 @@ returns-2 c =
     let d = t .enum-told .given .1 in
     record {
       reduced = rw d at (R .reduced);
-      checks = parity-checks (a .n) (a .k) (a .rows .now) _ (sym d ∙ R .reduced .answer)
+      checks = parity-checks (a .n) (a .k) (a .rows .now) (every-row-of _ _ (R .reduced .answer) (R .reduced .every-row)) _ (sym d ∙ R .reduced .answer)
           (q .check-rows .ensures ∙ ap (padded maxChecks) (checks-are _ _ _ (accepted t) _ (table-is t)));
       messages = rw d at (R .messages);
     }

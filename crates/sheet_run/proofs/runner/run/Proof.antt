@@ -26,7 +26,7 @@ refused c = c .before .before .before .before .before
 finished : (c : tie.After-read) {answer : SheetAnswer} {after : List ℕ} {r : ℕ} → c .read .result ≡ answer
     → Appends (start c .args .out .now) 0 (printed (start c .args .sheet .now) answer) after r
     → Ran (start c .args .sheet .now) (start c .args .out .now) r after
-finished c e A = ran _ _ (c .before .if1 .left) (sym e ∙ c .read .ensures .answer) A
+finished c e A = ran _ _ (λ i. c .before .before .before .shared-slice-known .given i .fits) (c .before .if1 .left) (sym e ∙ c .read .ensures .answer) A
 
 run-sheet-requires : tie.Need-run-sheet-requires
 run-sheet-requires c κs =

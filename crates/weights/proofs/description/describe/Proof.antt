@@ -2,6 +2,7 @@
 use mathlib.Core.Path.{sym, _∙_}
 use native.Mathlib.Omega.{arith}
 use Rattle.words.specs.Accepted.{Accepted}
+use Rattle.words.proofs.AnswerLaws.{every-row-of}
 use Rattle.words.proofs.AcceptedLaws.{accepted-in}
 use Rattle.linear.proofs.PivotTableLaws.{reduced-rows}
 use Rattle.parity.proofs.ParityLaws.{parity-checks}
@@ -23,13 +24,15 @@ returns c =
     let t = c .before .before .before in
     let a = t .before .before .args in
     let e = c .before .enum-told2 .given .1 in
-    let m = sym (t .code-of .ensures .reduced .answer) ∙ e in
+    let R = t .code-of .ensures .reduced in
+    let m = sym (R .answer) ∙ e in
+    let w = every-row-of _ _ (R .answer) (R .every-row) in
     let z = c .refused .ensures in
     let q = z .0 ∙ e in
     record {
-      reduced = reduced-rows (a .n) (a .k) (a .rows .now) _ (q ∙ sym m) (rw q (z .1));
-      checks = parity-checks (a .n) (a .k) (a .rows .now) _ (q ∙ sym m) (rw q (z .2));
-      weights = refused-weights (a .n) (a .k) (a .rows .now) _ _ q m (z .3, z .4, z .5);
+      reduced = reduced-rows (a .n) (a .k) (a .rows .now) w _ (q ∙ sym m) (rw q (z .1));
+      checks = parity-checks (a .n) (a .k) (a .rows .now) w _ (q ∙ sym m) (rw q (z .2));
+      weights = refused-weights (a .n) (a .k) (a .rows .now) w _ _ q m (z .3, z .4, z .5);
     }
 
 returns-2 : tie.Need-returns-2

@@ -11,7 +11,7 @@ use Rattle.coding.specs.Weight.{dmin}
 use Rattle.coding.specs.Reduce.{reducedRows}
 use Rattle.words.specs.Limits.{maxRows}
 use Rattle.words.specs.Accepted.{Accepted}
-use Rattle.words.proofs.AnswerLaws.{refused-done}
+use Rattle.words.proofs.AnswerLaws.{refused-done, every-row-of}
 use Rattle.words.proofs.AcceptedLaws.{accepted-in}
 use Rattle.words.proofs.CodeLaws.{distance-is}
 use Rattle.parity.proofs.CodeOfLaws.{checks-done}
@@ -55,9 +55,10 @@ returns : tie.Need-returns
 returns c =
     let k = c .before .before in
     let a = k .before .before .args in
+    let R = k .code-of .ensures .reduced in
     let e = c .enum-told2 .given .1 in
     record {
-      checks = parity-checks (a .n) (a .k) (a .rows .now) _ (k .code-of .ensures .reduced .answer) (rw e refl);
+      checks = parity-checks (a .n) (a .k) (a .rows .now) (every-row-of _ _ (R .answer) (R .every-row)) _ (R .answer) (rw e refl);
       dmin-is = rw e refl;
       distance = λ d. refused-done (sym e ∙ d);
     }

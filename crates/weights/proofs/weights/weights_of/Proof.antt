@@ -1,5 +1,6 @@
 -- `weights::weights::weights_of`: the walk over an accepted matrix, in the words of part 3. Assumes nothing.
 use mathlib.Core.Path.{refl, sym, _∙_}
+use Rattle.words.proofs.AnswerLaws.{every-row-of}
 use Rattle.weights.proofs.DescribeLaws.{walked-weights, refused-weights}
 use borrow.Author.Needs.{needs}
 use native.Mathlib.Omega.{arith}
@@ -11,7 +12,8 @@ returns c =
     let r = c .before .before in
     let a = r .before .before .args in
     let e = c .enum-told2 .given .1 in
-    refused-weights (a .n) (a .k) (a .rows .now) _ _ e (sym (r .accept .ensures .answer) ∙ e) (refl, refl, refl)
+    let J = r .accept .ensures in
+    refused-weights (a .n) (a .k) (a .rows .now) (every-row-of _ _ (J .answer) (J .every-row)) _ _ e (sym (J .answer) ∙ e) (refl, refl, refl)
 
 walk-all-requires : tie.Need-walk-all-requires
 walk-all-requires c κs =
