@@ -118,6 +118,29 @@ static void worst_longest_code(void) { single_places(20, 0); in.tried = 46241153
 /* The zero places first: of weight 12 the words up to the one that has all of them. */
 static void zeros_first_code(void) { single_places(16, 12); in.tried = 46295514; }
 
+/* Rows of the extended BCH code (32,21), a polynomial times x^i with a parity place, shortened to k rows and 12 places more. Row 5 is left
+ * out: without an earlier one, a place is always 0 or two places are always equal. The minimum distance is 6. */
+static void bch(uint32_t k)
+{
+    in.n = k + 12;
+    in.k = k;
+    for (uint32_t i = 0; i < k; i++)
+        in.rows[i] = 0x769u << (i < 5 ? i : i + 1) | 1u << (in.n - 1);
+}
+
+static void bch_code(void) { bch(16); }
+static void longest_bch_code(void) { bch(RELAY_MAX_ROWS); }
+static void bch_leaders(void) { bch_code(); in.tried = 127963; }
+static void longest_bch_leaders(void) { longest_bch_code(); in.tried = 248350; }
+
+static void hamming_code(void)
+{
+    static const uint32_t rows[4] = {0x0B, 0x16, 0x27, 0x45};
+    in.n = 7;
+    in.k = 4;
+    memcpy(in.rows, rows, sizeof rows);
+}
+
 /* The perfect Golay code: its leaders are the words of weight up to 3, so that they take little of a call's time. */
 static void perfect_code(void)
 {
@@ -127,10 +150,20 @@ static void perfect_code(void)
         in.rows[i] = 0xC75u << i;
 }
 
+static void extended_code(void)
+{
+    perfect_code();
+    in.n = 24;
+    for (uint32_t i = 0; i < 12; i++)
+        in.rows[i] |= 1u << 23;
+}
+
 static void messages(void) { perfect_code(); random_words(in.k); }
 static void clean(void) { perfect_code(); sent(0); }
 static void damaged(void) { perfect_code(); sent(1); }
 static void any_words(void) { perfect_code(); random_words(in.n); }
+static void hamming_words(void) { hamming_code(); random_words(in.n); }
+static void extended_words(void) { extended_code(); random_words(in.n); }
 
 #define DESCRIBE(f, w) w.number = f(in.n, in.k, in.rows, in.k, w.reduced, w.checks, w.weights, &w.dmin, &w.lightest, &w.value)
 static void describe_ours(void) { DESCRIBE(relay_describe, ours); }
@@ -183,15 +216,7 @@ static void few_bits(void) { small_bits(); in.count = in.prepared = 3; }
 /* The later eight words: the run with the first eight is subtracted. */
 static void later_bits(void) { wide_bits(); in.fewer = DEPTH / 2; }
 
-static void small_burst(void)
-{
-    static const uint32_t rows[4] = {0x0B, 0x16, 0x27, 0x45};
-    in.n = 7;
-    in.k = 4;
-    memcpy(in.rows, rows, sizeof rows);
-    burst(1);
-}
-
+static void small_burst(void) { hamming_code(); burst(1); }
 static void perfect_burst(void) { perfect_code(); burst(3); }
 static void dense_burst(void) { dense(28, 16); burst(1); }
 
@@ -334,14 +359,13 @@ static void byte_field(uint8_t tag, uint32_t content)
 }
 
 /* A sheet of 512 random words; a negative radius is left out. */
-static void sheet(uint32_t n, uint32_t k, int radius)
+static void sheet(int radius)
 {
-    dense(n, k);
-    random_words(n);
-    byte_field(1, n);
-    byte_field(2, k);
-    field(3, 4 * k);
-    for (uint32_t i = 0; i < k; i++)
+    random_words(in.n);
+    byte_field(1, in.n);
+    byte_field(2, in.k);
+    field(3, 4 * in.k);
+    for (uint32_t i = 0; i < in.k; i++)
         put(in.rows[i]);
     if (radius >= 0)
         byte_field(4, (uint32_t)radius);
@@ -350,17 +374,19 @@ static void sheet(uint32_t n, uint32_t k, int radius)
         put(in.words[i]);
 }
 
-static void sheet_small(void) { sheet(7, 4, -1); }
-static void sheet_middle(void) { sheet(23, 12, -1); }
-static void sheet_other(void) { sheet(23, 11, -1); }
-static void sheet_dense(void) { sheet(28, 16, -1); }
-static void sheet_within(void) { sheet(28, 16, 1); }
-static void sheet_longest(void) { sheet(RELAY_MAX_PLACES, RELAY_MAX_ROWS, -1); }
+static void sheet_small(void) { small_code(); sheet(-1); }
+static void sheet_middle(void) { middle_code(); sheet(-1); }
+static void sheet_other(void) { dense(23, 11); sheet(-1); }
+static void sheet_dense(void) { dense_code(); sheet(-1); }
+static void sheet_within(void) { dense_code(); sheet(1); }
+static void sheet_longest(void) { longest_code(); sheet(-1); }
+static void sheet_bch(void) { bch_code(); sheet(-1); }
+static void sheet_longest_bch(void) { longest_bch_code(); sheet(-1); }
 static void run_ours(void) { ours.length = relay_run(in.sheet, in.sheet_len, ours.out, sizeof ours.out); }
 static void run_plain(void) { theirs.length = plain_run(in.sheet, in.sheet_len, theirs.out, sizeof theirs.out); }
 
 #define TABLES {.blocks = true, .loops = true, .tables = true}
-#define ALIKE {.rows = true, .loops = true, .tables = true}
+#define ALIKE {.rows = true, .loops = true, .batch = true}
 #define MADE {.blocks = true, .syndromes = true, .tables = true}
 
 #define DESCRIBE_CASE(name, prepare)                                                                                              \
@@ -372,9 +398,10 @@ static void run_plain(void) { theirs.length = plain_run(in.sheet, in.sheet_len, 
     {"Leaders", name, "last two ones in loops", prepare, leaders_ours, leaders_plain, {.loops = true}, 1, false, false, timed},   \
     {"Leaders", name, "leaders from leaders", prepare, leaders_ours, leaders_made, {.syndromes = true}, 1, false, false, timed}
 
-#define WORDS_CASE(name, prepare)                                                                                                 \
-    {"Words, perfect (23,12)", name, "parities", prepare, decode_ours, decode_plain, {.loops = true}, WORDS, true, true, false},  \
-    {"Words, perfect (23,12)", name, "tables of syndromes", prepare, decode_ours, decode_plain, TABLES, WORDS, true, true, false}
+#define WORDS_CASE(code, name, prepare)                                                                                           \
+    {"Words, " code, name, "parities", prepare, decode_ours, decode_plain, {.loops = true}, WORDS, true, true, false},            \
+    {"Words, " code, name, "parities, row by row", prepare, decode_ours, decode_plain, ALIKE, WORDS, true, true, false},          \
+    {"Words, " code, name, "tables of syndromes", prepare, decode_ours, decode_plain, TABLES, WORDS, true, true, false}
 
 #define BITS_CASE(name, prepare, f, bits)                                                                                         \
     {"Interleaving", name, "word by word", prepare, f##_ours, f##_plain, {0}, bits, false, true, false},                          \
@@ -415,18 +442,24 @@ const Case cases[] = {
     DESCRIBE_CASE("random (23,12)", middle_code),
     DESCRIBE_CASE("perfect (23,12)", perfect_code),
     DESCRIBE_CASE("dense (28,16)", dense_code),
+    DESCRIBE_CASE("extended BCH (28,16)", bch_code),
     DESCRIBE_CASE("single places (28,16)", single_code),
     DESCRIBE_CASE("dense (32,20)", longest_code),
+    DESCRIBE_CASE("extended BCH (32,20)", longest_bch_code),
     LEADERS_CASE("dense (28,16)", dense_code, false),
+    LEADERS_CASE("extended BCH (28,16)", bch_leaders, false),
     LEADERS_CASE("dense (32,20)", longest_code, false),
+    LEADERS_CASE("extended BCH (32,20)", longest_bch_leaders, false),
     LEADERS_CASE("zero places first (28,16)", zeros_first_code, false),
     LEADERS_CASE("worst (28,16)", worst_code, false),
     LEADERS_CASE("worst (32,20)", worst_longest_code, true),
+    WORDS_CASE("Hamming (7,4)", "decode, random words", hamming_words),
     {"Words, perfect (23,12)", "encode", "row sums", messages, encode_ours, encode_plain, {0}, WORDS, false, true, false},
     {"Words, perfect (23,12)", "read back", "parities", clean, message_ours, message_plain, {0}, WORDS, true, true, false},
-    WORDS_CASE("decode, clean", clean),
-    WORDS_CASE("decode, 1 changed place", damaged),
-    WORDS_CASE("decode, random words", any_words),
+    WORDS_CASE("perfect (23,12)", "decode, clean", clean),
+    WORDS_CASE("perfect (23,12)", "decode, 1 changed place", damaged),
+    WORDS_CASE("perfect (23,12)", "decode, random words", any_words),
+    WORDS_CASE("extended Golay (24,12)", "decode, random words", extended_words),
     BITS_CASE("interleave (7,4)", small_bits, interleave, DEPTH * 7),
     BITS_CASE("interleave (7,4), three words", few_bits, interleave, 3 * 7),
     BITS_CASE("interleave (28,16)", wide_bits, interleave, DEPTH * 28),
@@ -468,7 +501,9 @@ const Case cases[] = {
     SHEET_CASE("random (23,11)", sheet_other),
     SHEET_CASE("dense (28,16)", sheet_dense),
     SHEET_CASE("dense (28,16), within 1", sheet_within),
+    SHEET_CASE("extended BCH (28,16)", sheet_bch),
     SHEET_CASE("dense (32,20)", sheet_longest),
+    SHEET_CASE("extended BCH (32,20)", sheet_longest_bch),
 };
 
 const size_t case_count = sizeof cases / sizeof *cases;

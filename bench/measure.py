@@ -17,8 +17,8 @@ GOALS = [("(72,64)", "(72,64) decode", 1.25), ("Widths", "word of 16 or 32 data 
          ("Leaders", "leaders", 1.15), ("Sheets of 512 words", "sheet", 1.3)]
 # Against this C the goal of its section is another.
 OTHER_GOALS = {"twelve tests side by side": 1.1}
-# Of a word that is decoded, once the leaders stand.
-WORDS_SECTION, WORD_INSTRUCTIONS = "Words, perfect (23,12)", 35
+# Of a word that is decoded, once the leaders stand, with 3, 11 and 12 check rows.
+WORD_INSTRUCTIONS = {"Words, Hamming (7,4)": 35, "Words, perfect (23,12)": 105, "Words, extended Golay (24,12)": 105}
 # Of a bit that is interleaved or deinterleaved; and the decode after it, beside these, by a decode of the same words.
 BIT_INSTRUCTIONS, SAME_WORDS, SAME_WORDS_GOAL = 8, "relay_decode of the words", 1.1
 # The largest code: Describe by sixteen times that of a code with four rows fewer.
@@ -139,9 +139,10 @@ def largest_row(described):
     return goal_row("describe by sixteen times that of four rows fewer", WALK_GOAL, "", "", walked)
 
 
-def word_row(results):
-    decoded = [(r.library[0], r.case.name) for r in results if r.case.name.startswith("decode")]
-    return goal_row("instructions of a decoded word", WORD_INSTRUCTIONS, "", "", decoded)
+def word_rows(sections):
+    for section, goal in WORD_INSTRUCTIONS.items():
+        decoded = [(r.library[0], r.case.name) for r in sections[section] if r.case.name.startswith("decode")]
+        yield goal_row("instructions of a decoded word, " + section.removeprefix("Words, "), goal, "", "", decoded)
 
 
 def program_rows(directory):
@@ -172,10 +173,9 @@ def main():
         sections[case.section].append(measure(directory, case, known))
         print(case.section, case.name, case.plain, sections[case.section][-1], sep="; ", file=sys.stderr)
     print(open(os.path.join(os.path.dirname(__file__), "head.md")).read() + machine())
-    print("## Goals\n\nThe greatest ratio of instructions among the cases below; of a bit the instructions themselves.\n")
+    print("## Goals\n\nThe greatest ratio of instructions among the cases below; of a bit and a decoded word the instructions themselves.\n")
     rows = [row for section, title, goal in GOALS for row in goal_rows(title, goal, sections[section])]
-    rows += [largest_row(sections["Describe"]), word_row(sections[WORDS_SECTION])]
-    rows += interleaving_rows(sections["Interleaving"])
+    rows += [largest_row(sections["Describe"]), *word_rows(sections), *interleaving_rows(sections["Interleaving"])]
     print(table(["Goal", "C", "build", "greatest ratio", ""], rows))
     print("## Programs: sheets of 512 words\n")
     print(table(["Code", "decode_sheet", "C program", "ratio", "goal", ""], list(program_rows(directory))))

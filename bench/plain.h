@@ -27,6 +27,7 @@ typedef struct {
     bool blocks; /* codewords are walked in blocks, not in Gray order */
     bool rows;   /* the minimum distance alone by rising number of reduced rows, not by a walk over all codewords */
     bool loops;  /* the leaders' last two ones are placed in loops, not by recursion */
+    bool batch;  /* syndromes by parities one check row after the other over all words, not word by word */
     bool tables; /* syndromes by tables of eight places, not by a parity for each check row */
     bool syndromes; /* leaders are made from leaders, not found by trying words */
     bool places; /* interleaved bits place by place, not word by word */

@@ -300,6 +300,20 @@ static void decode_words(const uint32_t *checks, unsigned r, const uint32_t *lea
         answer(a, i, words[i], leader[syndrome(checks, r, words[i])]);
 }
 
+/* Syndromes, then leaders, then codewords in one list, each in passes over all words. */
+static void decode_batch(const uint32_t *checks, unsigned r, const uint32_t *leader, const uint32_t *words, size_t m, const Answers *a)
+{
+    uint32_t *list = a->out;
+    memset(list, 0, m * sizeof *list);
+    while (r-- > 0)
+        for (size_t i = 0; i < m; i++)
+            list[i] = list[i] << 1 ^ (ones(words[i] & checks[r]) & 1);
+    for (size_t i = 0; i < m; i++)
+        list[i] = leader[list[i]];
+    for (size_t i = 0; i < m; i++)
+        answer(a, i, words[i], list[i]);
+}
+
 static void decode_by_tables(const uint32_t columns[MAX_PLACES], const uint32_t *leader, const uint32_t *words, size_t m, const Answers *a)
 {
     Tables tables;
@@ -341,6 +355,8 @@ uint32_t plain_decode(uint32_t n, uint32_t k, const uint32_t *rows, size_t rows_
     leaders(n, checks, r, &b);
     if (ways.tables)
         decode_by_tables(b.columns, work, words, m, &a);
+    else if (ways.batch)
+        decode_batch(checks, r, work, words, m, &a);
     else
         decode_words(checks, r, work, words, m, &a);
     return 0;

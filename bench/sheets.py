@@ -40,6 +40,12 @@ def dense(n, k, rng):
     return rows
 
 
+def bch(k):
+    """Rows of the extended BCH code (32,21), a polynomial times x^i with a parity place, shortened to k rows and 12 places more. Row 5 is left
+    out: without an earlier one, a place is always 0 or two places are always equal. The minimum distance is 6."""
+    return [0x769 << i | 1 << (k + 11) for i in range(k + 1) if i != 5]
+
+
 def reduced(n, rows):
     """The reduced rows by pivot, or 0."""
     table = [0] * n
@@ -81,7 +87,8 @@ def sheets():
     few = next(rows for rows in (dense(28, 16, rng) for _ in itertools.count()) if tries(28, rows, FEW_TRIES) <= FEW_TRIES)
     codes = [("shortened Hamming (6,3)", 1.7, 6, hamming(3, 6)), ("Hamming (7,4)", 1.7, 7, hamming(3, 7)),
              ("extended Hamming (8,4)", 1.7, 8, extended(7, hamming(3, 7))), ("repetition (13,1)", 1.8, 13, [2 ** 13 - 1]),
-             ("Hamming (15,11)", 1.3, 15, hamming(4, 15)), ("Reed-Muller (16,5)", 2.0, 16, muller), ("Golay (23,12)", 1.4, 23, golay),
-             ("extended Golay (24,12)", 1.4, 24, extended(23, golay)), ("dense (28,16)", 0.45, 28, dense(28, 16, rng)),
-             ("dense (28,16), at most %s words tried" % format(FEW_TRIES, ","), 0.45, 28, few), ("dense (32,20)", 0.3, 32, dense(32, 20, rng))]
+             ("Hamming (15,11)", 1.3, 15, hamming(4, 15)), ("Reed-Muller (16,5)", 2.1, 16, muller), ("Golay (23,12)", 1.5, 23, golay),
+             ("extended Golay (24,12)", 1.45, 24, extended(23, golay)), ("dense (28,16)", 0.45, 28, dense(28, 16, rng)),
+             ("dense (28,16), at most %s words tried" % format(FEW_TRIES, ","), 0.45, 28, few), ("dense (32,20)", 0.3, 32, dense(32, 20, rng)),
+             ("extended BCH (28,16)", 1.95, 28, bch(16)), ("extended BCH (32,20)", 0.4, 32, bch(20))]
     return [Sheet(name, goal, content(n, rows, rng)) for name, goal, n, rows in codes]

@@ -120,7 +120,7 @@ uint32_t relay_message(uint32_t n, uint32_t k, const uint32_t *rows, size_t rows
  * word, which is no answer, and RELAY_FAR. The first 2^(n - k) entries of `work` become the coset leaders by syndrome. Later
  * slots keep their values.
  * Time: most of it goes into the leaders, which are built in each call, and depends on the matrix; within a radius the minimum
- * distance is looked for besides, which costs little; so do more words. 512 words took 1 us with a (7,4) code, 40 to 80 us with random
+ * distance is looked for besides, which costs little; so do more words. 512 words took 1.5 us with a (7,4) code, 40 to 80 us with random
  * (28,16) or (32,20) rows, in either reading, and 0.6 to 0.8 s with (32,20) rows that leave twelve places 0 in every codeword, the
  * slowest found (AMD EPYC, 2.6 GHz).
  * Stack: about 5 kB. */
