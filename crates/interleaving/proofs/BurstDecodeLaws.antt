@@ -2,9 +2,8 @@
 use mathlib.Core.Path.{_≡_, refl, sym, ap, subst, _∙_}
 use mathlib.Core.Logic.{_⊎_, inl, inr}
 use mathlib.Core.List.{List, map, _++_}
-use Prim.Native.Nat.{ℕ, _*_, _≤_, _<_}
+use Prim.Native.Nat.{ℕ, _≤_, _<_}
 use native.Mathlib.Omega.{arith}
-use lib.Dec.{eqb, leb}
 use lib.ListN.{length, getD, drop, length-append, length-map}
 use borrow.Author.Tests.{le-leb, lt-leb}
 use Rattle.coding.specs.Matrix.{Inside, Codeword}
@@ -12,15 +11,15 @@ use Rattle.coding.specs.Weight.{dmin}
 use Rattle.coding.specs.Interleaving.{sortedWords, BurstRule}
 use Rattle.coding.proofs.MatrixLaws.{codeword-lt}
 use Rattle.coding.proofs.InterleavingLaws.{sorted-at, sorted-long, sorted-inside, burst-rule}
-use Rattle.words.specs.Limits.{maxPlaces, maxDepth}
+use Rattle.words.specs.Limits.{maxPlaces}
 use Rattle.words.specs.Refusal.{numberOf, andThen, Between, EveryRow}
 use Rattle.words.specs.Shape.{shapeAnswer}
 use Rattle.words.specs.Accepted.{matrixAnswer}
 use Rattle.words.specs.declared.answer.Refusal.{Refusal}
-use Rattle.words.specs.declared.answer.Refusal.the-variants.{OutOfRange, NoDepth, NoBits}
+use Rattle.words.specs.declared.answer.Refusal.the-variants.{OutOfRange}
 use Rattle.words.specs.declared.answer.Answer.{Answer}
 use Rattle.words.specs.declared.answer.Answer.the-variants.{Done, Refused}
-use Rattle.words.proofs.AnswerLaws.{refused-done, stays, goes, Numbered, unless-numbered, andThen-numbered, numbered-as}
+use Rattle.words.proofs.AnswerLaws.{refused-done, stays, goes, Numbered, andThen-numbered, numbered-as}
 use Rattle.words.proofs.AnswerLaws.{never-done, never-of, every-row-of, rows-first}
 use Rattle.words.proofs.AcceptedLaws.{shape-refused}
 use Rattle.outcomes.specs.Outcome.{wordOf}
@@ -29,7 +28,7 @@ use Rattle.outcomes.specs.declared.ending.Reading.the-variants.{Within}
 use Rattle.decoder.specs.Causes.{codeAnswer, listsAnswer, decodeAnswer}
 use Rattle.decoder.specs.Decoded.{Lent, Decoded}
 use Rattle.decoder.proofs.CauseLaws.{accepted-past, at-matrix, code-numbered, code-every-row, lists-last}
-use Rattle.interleaving.specs.Causes.{onlyBits, lengthAnswer, bitsAnswer, interleavedAnswer}
+use Rattle.interleaving.specs.Causes.{bitsAnswer, interleavedAnswer}
 use Rattle.interleaving.specs.Decoded.{Received, sortedBatch, InterleavedNumber, DecodedInterleaved}
 use Rattle.interleaving.proofs.BitLaws.{bits-in, bits-numbered}
 

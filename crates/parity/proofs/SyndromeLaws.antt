@@ -1,6 +1,6 @@
 -- Laws of the syndromes of a batch: with each check row, from the last to the first, every word has one more digit; and the bits of what
 -- then stands in the slots. Assumes nothing.
-use mathlib.Core.Path.{_≡_, refl, sym, subst, ap, _∙_}
+use mathlib.Core.Path.{_≡_, refl, subst, ap, _∙_}
 use mathlib.Core.List.{List, [], _∷_, _++_, map}
 use Prim.Native.Nat.{ℕ, _*_, _%_, _^_, _-_, _≤_, _<_, min}
 use native.Mathlib.Omega.{arith}

@@ -5,7 +5,6 @@ use Prim.Native.Nat.{ℕ, zero, suc, _+_, _-_, _*_, _/_, _%_, _≤_, _<_}
 use native.Mathlib.Nat.{add-zero}
 use native.Mathlib.Omega.{arith}
 use borrow.Author.Tests.{le-ltb, lt-leb}
-use lib.Dec.{eqb}
 use lib.ListN.{length, getD, drop, set, replicate, length-append, length-drop}
 use lib.Seq.{getD-drop, drop-drop, drop-append-seam, ext-getD}
 use Rattle.outcomes.specs.declared.ending.Reading.{Reading}
@@ -16,7 +15,6 @@ use Rattle.sheet.specs.Sheet.{maxSheet, readingOf, sheetOf}
 use Rattle.sheet.specs.Written.{WrittenSheet, field, fourBytes, radiusField, sheetBytes, ReadBack}
 use Rattle.sheet.specs.declared.answer.Span.{Span}
 use Rattle.sheet.specs.declared.answer.SheetAnswer.{SheetAnswer}
-use Rattle.sheet.specs.declared.answer.SheetAnswer.the-variants.{Read}
 use Rattle.sheet.specs.declared.field.Content.{Content}
 use Rattle.sheet.specs.declared.field.Content.the-variants.{Absent, Byte, Words}
 use Rattle.sheet.specs.declared.field.Field.the-variants.{Got}

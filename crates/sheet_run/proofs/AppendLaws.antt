@@ -22,9 +22,6 @@ module _ {before : List ℕ} {at : ℕ} {bytes after : List ℕ} {next : ℕ} (A
       ap length split ∙ length-append (take at before ++ bytes) (drop next before)
       ∙ omega (arith, front, length-drop next before, A .fits, A .ends)
 
-  pub appends-end : next ≤ length after
-  appends-end = omega (arith, A .ends, A .fits, appends-length)
-
   -- so is what is behind the bytes
   behind : (m : ℕ) → next ≤ m → drop m after ≡ drop m before
   behind m h =

@@ -5,8 +5,7 @@ use Prim.Native.Nat.{ℕ, _+_, _^_, _<_}
 use native.Mathlib.Omega.{arith}
 use lib.ListN.{length, getD}
 use lib.Seq.{getD-take}
-use Rattle.coding.specs.Matrix.{Inside}
-use Rattle.words.specs.Limits.{maxWords, maxChecks, width}
+use Rattle.words.specs.Limits.{maxWords, maxChecks}
 use Rattle.words.specs.Refusal.{numberOf, valueOf, Between, Never}
 use Rattle.words.specs.declared.answer.Refusal.{Refusal}
 use Rattle.words.specs.declared.answer.Answer.{Answer}
@@ -15,14 +14,12 @@ use Rattle.words.proofs.AnswerLaws.{never}
 use Rattle.outcomes.specs.declared.ending.Reading.{Reading}
 use Rattle.decoder.specs.Causes.{decodeAnswer}
 use Rattle.decoder.proofs.CauseLaws.{refused-number, decode-passes}
-use Rattle.sheet.specs.Sheet.{sheetOf}
 use Rattle.sheet.specs.Words.{wordsIn}
-use Rattle.sheet.specs.declared.answer.Sheet.{Sheet}
 use Rattle.sheet.specs.declared.answer.SheetAnswer.the-variants as reading
 use Rattle.sheet.proofs.SpanLaws.{words-inside}
 use Rattle.sheet_run.specs.Decimal.{decimal}
 use Rattle.sheet_run.specs.Text.{written, space}
-use Rattle.sheet_run.specs.Output.{refusedLine, codeLine, linesOf, batchOutput, printed, outputOf}
+use Rattle.sheet_run.specs.Output.{refusedLine, codeLine, linesOf, batchOutput, outputOf}
 use Rattle.sheet_run.specs.Shown.{Begins, EveryWordShown}
 use Rattle.sheet_run.proofs.DecimalLaws.{decimal-small}
 

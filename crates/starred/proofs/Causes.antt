@@ -1,5 +1,5 @@
 -- The value of the table of causes, by computation. Assumes nothing.
-use mathlib.Core.Path.{_≡_, refl}
+use mathlib.Core.Path.{refl}
 use mathlib.Core.Logic.{_≢_}
 use native.Mathlib.Omega.{arith}
 use Rattle.words.specs.Refusal.{numberOf}

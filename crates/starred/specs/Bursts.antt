@@ -3,10 +3,11 @@
 use mathlib.Core.Path.{_≡_}
 use mathlib.Core.List.{List, [], _∷_, map}
 use Prim.Native.Nat.{ℕ}
+use lib.ListN.{getD, take}
 use Rattle.coding.specs.Lists.{tabulate, zeros}
 use Rattle.coding.specs.Word.{bit}
 use Rattle.coding.specs.Matrix.{Codeword}
-use Rattle.coding.specs.Interleaving.{interleaved, sortedWords, SentWithBurst}
+use Rattle.coding.specs.Interleaving.{interleaved, sortedWords, SentWithBurst, BurstRule}
 use Rattle.words.specs.declared.answer.Refusal.the-variants.{RadiusTooLarge, WordOutside, ShortOutput, ShortWork, NoDepth, NoBits}
 use Rattle.words.specs.declared.answer.Answer.the-variants.{Done, Refused}
 use Rattle.outcomes.specs.Outcome.{wordOf, countOf}
@@ -36,6 +37,9 @@ pub record Bursts : Type 0 where
   pub burst : (words 1 0b111001111110001001011 ≡ three) × (counts 1 0b111001111110001001011 ≡ 1 ∷ 1 ∷ 1 ∷ [])
   -- what the burst rule asks of them: codewords, and a burst of 3 * 1 places from bit 10 on
   pub sent-with-burst : SentWithBurst (Codeword seven) 7 3 3 10 three (bitList 21 0b111001111110001001011)
+  -- and what it promises of them: the words sent, each with the count 1
+  pub by-rule : (codewords counts : List ℕ) → BurstRule (Codeword seven) 7 3 1 (bitList 21 0b111001111110001001011) codewords counts
+      → (take 3 codewords ≡ three) × (tabulate (λ i. getD counts i 0) 3 ≡ 1 ∷ 1 ∷ 1 ∷ [])
   -- bits 9 and 12 changed, two places of word 0: it is decoded as 1010001
   pub too-wide : (words 1 0b111001111001001001011 ≡ 0x45 ∷ 0x45 ∷ 0x7F ∷ []) × (counts 1 0b111001111001001001011 ≡ 1 ∷ 0 ∷ 0 ∷ [])
   -- bit 9 changed, radius 0: word 0 is far
@@ -50,3 +54,9 @@ pub record Bursts : Type 0 where
   pub decoding : (interleavedAnswer 7 4 seven 2 17 (zeros 14) 2 2 8 ≡ Refused RadiusTooLarge)
       × (interleavedAnswer 7 4 seven 1 2 (zeros 15) 2 2 8 ≡ Refused NoBits) × (interleavedAnswer 7 4 seven 1 2 (zeros 14) 2 1 8 ≡ Refused ShortOutput)
       × (interleavedAnswer 7 4 seven 1 2 (zeros 14) 2 2 7 ≡ Refused ShortWork) × (interleavedAnswer 7 4 seven 1 2 (zeros 14) 2 2 8 ≡ Done)
+  -- the deepest: 16 words, 16 times 7 bytes and lists of 16, by the three calls
+  pub deepest : (interleaveAnswer 7 4 seven (zeros 16) 112 ≡ Done) × (deinterleaveAnswer 7 4 seven 16 (zeros 112) 16 ≡ Done)
+      × (interleavedAnswer 7 4 seven 1 16 (zeros 112) 16 16 8 ≡ Done)
+  -- one word more, and lists for it
+  pub too-deep : (interleaveAnswer 7 4 seven (zeros 17) 119 ≡ Refused NoDepth) × (deinterleaveAnswer 7 4 seven 17 (zeros 119) 17 ≡ Refused NoDepth)
+      × (interleavedAnswer 7 4 seven 1 17 (zeros 119) 17 17 8 ≡ Refused NoDepth)

@@ -22,6 +22,15 @@ radius r = bytes 3 0x040001 ++ r ∷ []
 abbrev pub words : List ℕ
 words = bytes 11 0x05000823_0000001F_000000
 
+-- (2,1) with the row 11, and 512 words 00
+abbrev pub full : List ℕ
+full = bytes 18 0x01000102_02000101_03000403_00000005_0800 ++ zeros 2048
+
+-- m lines of one text
+abbrev pub lines : ℕ → List ℕ → List ℕ
+lines zero line = []
+lines (suc m) line = line ++ lines m line
+
 pub record Sheets : Type 0 where
   -- 01's sheet, in nearest reading
   pub nearest : outputOf (matrix ++ words) ≡ written "6 3 3 1\n010101 2\n110110 1\nclean 0 mended 2 far 0 places 3\n"
@@ -43,6 +52,8 @@ pub record Sheets : Type 0 where
   pub row-count : outputOf (bytes 18 0x01000106_02000102_03000401_00000005_0000) ≡ written "refused 2 0\n"
   pub row-outside : outputOf (bytes 22 0x01000106_02000102_03000801_00000040_00000005_0000) ≡ written "refused 3 1\n"
   pub dependent : outputOf (bytes 26 0x01000104_02000103_03000C03_00000005_00000006_00000005_0000) ≡ written "refused 4 2\n"
+  -- 512 words
+  pub most-words : outputOf full ≡ written "2 1 2 0\n" ++ lines 512 (written "00 0\n") ++ written "clean 512 mended 0 far 0 places 0\n"
   -- 513 words; a second word with a one at place 6
   pub many-words : outputOf (matrix ++ bytes 3 0x050804 ++ zeros 2052) ≡ written "refused 6 0\n"
   pub word-outside : outputOf (matrix ++ bytes 11 0x05000823_00000040_000000) ≡ written "refused 7 1\n"

@@ -9,7 +9,7 @@ use native.Mathlib.Nat.{pow-suc, suc-ne-zero}
 use native.Mathlib.Numerals.{add-one}
 use native.Mathlib.Omega.{arith}
 use lib.Dec.{eqb, ltb}
-use lib.ListN.{length, getD, set, take, drop, replicate, length-set, length-map, drop-of-length-le}
+use lib.ListN.{length, getD, set, take, drop, replicate, length-set, length-map}
 use lib.Seq.{getD-set-same, getD-set-other, ext-getD, take-all, take-at, drop-at}
 use borrow.Author.Tests.{le-ltb, ne-eqb}
 use Rattle.coding.specs.Lists.{first, tabulate}
