@@ -21,6 +21,9 @@ pub mod EchelonLaws  -- the reduced rows are the echelon form
 pub mod UniqueLaws  -- there is no other
 pub mod CheckRowLaws  -- 01's check rows; syndrome 0 exactly on codewords
 pub mod WeightCountLaws  -- weight counts by messages
+pub mod SumLaws  -- sums, exchanged with counts and gathered by value
+pub mod OverlapLaws  -- words that share an even or odd number of places with a word
+pub mod DualLaws  -- the MacWilliams identity
 pub mod DistanceLaws  -- the minimum distance
 pub mod PivotWeightLaws  -- sums of reduced rows weigh at least as many as they are
 pub mod LightestLaws  -- the search for the lightest, then smallest
