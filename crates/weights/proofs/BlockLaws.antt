@@ -130,7 +130,7 @@ module _ (counts : List ℕ) where
   none-below : (j : ℕ) → j < first (counted counts) 32 → getD counts (suc j) 0 ≡ 0
   none-below j h = eqb-true _ 0 (not-false _ (first-before (counted counts) 32 j h))
 
-  some-at : leastOf counts < 33 → getD counts (leastOf counts) 0 ≢ 0
+  pub some-at : leastOf counts < 33 → getD counts (leastOf counts) 0 ≢ 0
   some-at h = eqb-false _ 0 (not-true _ (first-hit (counted counts) 32 (omega arith)))
 
 -- the walk w has gone on over the block: ws are its weights, after the counts and l the least weight counted then

@@ -7,19 +7,22 @@ use Prim.Native.Nat.{ℕ, suc, _+_, _-_, _^_, _≤_, _<_}
 use native.Mathlib.Decide.{decLe}
 use native.Mathlib.Omega.{arith}
 use lib.Dec.{eqb}
-use lib.ListN.{length, getD, length-append, length-replicate, getD-replicate, List·getD-append}
+use lib.ListN.{length, getD, length-append, length-replicate, length-map, getD-replicate, List·getD-append}
 use lib.Seq.{ext-getD, getD-append-add}
 use lib.Count.{ones-le}
 use borrow.Author.Tests.{eq-eqb, ne-eqb}
 use Rattle.coding.specs.Lists.{zeros, padded}
 use Rattle.coding.specs.Word.{weight}
 use Rattle.coding.specs.Matrix.{encode}
+use Rattle.coding.specs.Reduce.{reduce}
+use Rattle.coding.specs.Check.{check, checks, frees}
 use Rattle.coding.specs.Weight.{count, weightCount, weightCounts, dmin, MinimumDistance, lightestCodeword, Lightest}
 use Rattle.coding.proofs.WeightLaws.{weight-zero}
 use Rattle.coding.proofs.MatrixLaws.{encode-lt}
 use Rattle.coding.proofs.ListLaws.{length-tabulate, getD-tabulate}
 use Rattle.coding.proofs.CountLaws.{count-none, count-some}
 use Rattle.coding.proofs.LightestCodewordLaws.{lightest-only, lightest-one-code}
+use Rattle.coding.proofs.DualLaws.{macwilliams-is}
 use Rattle.coding.proofs.WeightCountLaws.{weightCount-messages, weightCounts-total}
 use Rattle.words.specs.Refusal.{EveryRow}
 use Rattle.words.specs.declared.answer.Refusal.{Refusal}
@@ -27,7 +30,7 @@ use Rattle.words.specs.declared.answer.Answer.the-variants.{Done, Refused}
 use Rattle.words.proofs.AnswerLaws.{refused-done, never-done}
 use Rattle.words.specs.Accepted.{matrixAnswer, Accepted}
 use Rattle.words.proofs.AcceptedLaws.{in-accepted}
-use Rattle.words.proofs.CodeLaws.{distance-is}
+use Rattle.words.proofs.CodeLaws.{frees-are, distance-is}
 use Rattle.weights.specs.Description.{WeightsOf}
 use Rattle.weights.specs.declared.weights.Weights.{Weights}
 use Rattle.weights.specs.Inner.Walked.{Walked}
@@ -112,6 +115,9 @@ module _ (n k : ℕ) (rows : List ℕ) (A : Accepted n k rows) (w : Walk) (W : W
   lightest-is : w .lightest ≡ lightestCodeword n rows
   lightest-is = lightest-only n rows (A .inside) D (w .lightest) held-lightest
 
+  dimension : length (checks n rows) + length rows ≡ n
+  dimension = omega (arith, length-map (frees n rows) (check (reduce n rows)), frees-are n k rows A, A .count)
+
   -- the parts of part 3 are read off the walk
   pub walked-weights : WeightsOf n k rows (record { answer = Done; dmin = w .least; counts = w .counts; lightest = w .lightest })
   walked-weights = record {
@@ -123,6 +129,7 @@ module _ (n k : ℕ) (rows : List ℕ) (A : Accepted n k rows) (w : Walk) (W : W
     sum = λ _. weightCounts-total n rows (A .inside) (A .independent) ∙ ap (λ (x : ℕ). 2 ^ x) (A .count);
     lightest-is = lightest-is;
     lightest = λ _. held-lightest;
+    dual = λ _. macwilliams-is n rows (A .inside) dimension;
     everywhere = λ _ others s. lightest-is ∙ lightest-one-code n rows others s;
   }
 
@@ -138,5 +145,6 @@ refused-weights n k rows w r c e m (x, y, z) = record {
   sum = λ d. refused-done (sym e ∙ d);
   lightest-is = rw e z;
   lightest = λ d. refused-done (sym e ∙ d);
+  dual = λ d. refused-done (sym e ∙ d);
   everywhere = λ d. refused-done (sym e ∙ d);
 }

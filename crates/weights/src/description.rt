@@ -1,5 +1,5 @@
 // Describe: what a matrix's code is, by value.
-use crate::walk::walk_all;
+use crate::dual::walk_code;
 use parity::code_of;
 use words::answer::Answer;
 use words::limits::MAX_CHECKS;
@@ -35,7 +35,7 @@ fn refused(answer: Answer) -> Description
     }
 }
 
-// One elimination and one walk over the codewords.
+// One elimination, and one walk over the codewords or, where they are many, over the sums of the check rows.
 pub fn describe(n: u32, k: u32, rows: &[u32]) -> Description
     ensures { λ r. ⌜ DescriptionOf n k (now (rows .entry)) r ⌝ }
 {
@@ -44,9 +44,9 @@ pub fn describe(n: u32, k: u32, rows: &[u32]) -> Description
     let Answer::Done = a else {
         return refused(a);
     };
-    let walk = walk_all(rows);
     let first = c.rows;
     let second = c.checks;
+    let walk = walk_code(n, rows, &first[..k as usize], &second[..(n - k) as usize]);
     let counts = walk.counts;
     Description {
         answer: Answer::Done,

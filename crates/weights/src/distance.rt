@@ -1,60 +1,20 @@
 // The minimum distance alone, without a walk over all codewords: the sums of the reduced rows by rising number of rows. Each row that is
 // added keeps its own pivot, so that a sum of t rows weighs at least t, and the search ends as soon as t reaches the least weight met.
+use crate::search::least_sum;
 use crate::walk::NO_WEIGHT;
 use crate::walk::walk_all;
 use parity::code_of;
 use words::answer::Answer;
 use words::limits::MAX_CHECKS;
-use words::word::distance;
 ghost use mathlib.Core.Path.{_≡_};
-ghost use Prim.Native.Nat.{_≤_, min};
-ghost use lib.ListN.{length};
 ghost use Rattle.coding.specs.Weight.{dmin};
 ghost use Rattle.weights.specs.Distance.{DistanceOf};
-ghost use Rattle.weights.specs.Inner.LeastSum.{LeastSum, ReducedMatrix};
+ghost use Rattle.weights.specs.Inner.LeastSum.{ReducedMatrix};
 
 // With so few rows the walk over all codewords takes less than the sums of four rows and more.
 const WALKED_ROWS: usize = 12;
 
 const SUMMED_ROWS: usize = 3;
-
-fn lighter(a: u32, b: u32) -> u32
-    ensures { λ r. ⌜ r ≡ min a b ⌝ }
-{
-    if b < a { b } else { a }
-}
-
-// The least of best and of the weights of the first m rows, each with base added.
-fn least_row(rows: &[u32], m: usize, base: u32, best: u32) -> u32
-    requires { ⌜ m ≤ length (now rows) ⌝ }
-    ensures { λ r. ⌜ LeastSum (now (rows .entry)) m 1 base best r ⌝ }
-{
-    let mut least = best;
-    let mut p: usize = 0;
-    while p < m {
-        least = lighter(least, distance(rows[p], base));
-        p += 1;
-    }
-    least
-}
-
-// The least of best and of the weights of all sums of t of the first m rows, each with base added: those whose last row is p, for each p
-// in turn.
-fn least_sum(rows: &[u32], m: usize, t: usize, base: u32, best: u32) -> u32
-    requires { ⌜ (m ≤ length (now rows)) × (1 ≤ t) × (t ≤ m) ⌝ }
-    ensures { λ r. ⌜ LeastSum (now (rows .entry)) m t base best r ⌝ }
-{
-    if t == 1 {
-        return least_row(rows, m, base, best);
-    }
-    let mut least = best;
-    let mut p: usize = t - 1;
-    while p < m {
-        least = least_sum(rows, p, t - 1, base ^ rows[p], least);
-        p += 1;
-    }
-    least
-}
 
 // The minimum distance of reduced rows.
 fn least_weight(rows: &[u32]) -> u32
@@ -68,7 +28,7 @@ fn least_weight(rows: &[u32]) -> u32
             let w = walk_all(rows);
             return w.least;
         }
-        best = least_sum(rows, rows.len(), t, 0, best);
+        best = least_sum(rows, rows.len(), t, 0, 0, best);
         t += 1;
     }
     best

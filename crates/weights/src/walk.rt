@@ -21,7 +21,7 @@ const BLOCK: usize = 256;
 pub(crate) const NO_WEIGHT: u32 = 33;
 
 // Stands for no word: no word is larger.
-const NO_WORD: u32 = 4294967295;
+pub(crate) const NO_WORD: u32 = 4294967295;
 
 // What a walk has found: how many codewords of each weight, the least weight but 0 (33 where there is none), and the smallest word of it.
 pub(crate) struct Walk {
@@ -58,7 +58,7 @@ fn tally(weights: &[u32], counts: &mut [u32; WEIGHT_SLOTS])
 }
 
 // The least weight but 0 that has been counted, or 33.
-fn least_of(counts: &[u32]) -> u32
+pub(crate) fn least_of(counts: &[u32]) -> u32
     requires { ⌜ length (now counts) ≡ weightSlots ⌝ }
     ensures { λ r. ⌜ r ≡ leastOf (now (counts .entry)) ⌝ }
 {

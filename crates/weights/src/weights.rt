@@ -1,6 +1,5 @@
-// Part 3: weight counts, minimum distance and the lightest codeword, from one walk.
-use crate::walk::walk_all;
-use linear::accept;
+// Part 3 alone: weight counts, minimum distance and the lightest codeword.
+use crate::description::describe;
 use words::answer::Answer;
 use words::limits::WEIGHT_SLOTS;
 ghost use Rattle.weights.specs.Description.{WeightsOf};
@@ -14,25 +13,17 @@ pub struct Weights {
     pub lightest: u32,
 }
 
-// Part 3 of an accepted matrix, from one walk over the codewords.
+// Part 3 of an accepted matrix.
 pub fn weights_of(n: u32, k: u32, rows: &[u32]) -> Weights
     ensures { λ r. ⌜ WeightsOf n k (now (rows .entry)) r ⌝ }
 {
-    let answer = accept(n, k, rows);
-    let Answer::Done = answer else {
-        return Weights {
-            answer,
-            dmin: 0,
-            counts: [0u32; WEIGHT_SLOTS],
-            lightest: 0,
-        };
-    };
-    let walk = walk_all(rows);
-    let counts = walk.counts;
+    let d = describe(n, k, rows);
+    let answer = d.answer;
+    let counts = d.counts;
     Weights {
-        answer: Answer::Done,
-        dmin: walk.least,
+        answer,
+        dmin: d.dmin,
         counts,
-        lightest: walk.lightest,
+        lightest: d.lightest,
     }
 }

@@ -5,13 +5,14 @@ use native.Mathlib.Omega.{arith}
 use lib.ListN.{length}
 use borrow.Author.Tests.{ltb-false}
 use borrow.Author.Needs.{needs}
+use Rattle.coding.specs.Word.{weight}
 use Rattle.weights.proofs.LeastSumLaws.{Found, found-start, found-next, found-end}
 use Rattle.weights.proofs.DescribeLaws.{least-is}
 use Rattle.weights.proofs.distance.least_weight.Statement.{statement}
 use Rattle.weights.proofs.distance.least_weight.Tie as tie
 
 abbrev Inv-loop : tie.InvT-loop
-Inv-loop rows best₀ t₀ best t = (1 ≤ t) × (best ≤ 33) × Found rows t best
+Inv-loop rows best₀ t₀ best t = (1 ≤ t) × (best ≤ 33) × Found weight 33 rows t best
 
 abbrev μ-loop : tie.MeasureT-loop
 μ-loop rows best₀ t₀ best t = length rows + 1 - t
@@ -45,7 +46,7 @@ loop-again c =
     let l = c .before .before .before .before in (
       omega arith,
       omega (arith, c .least-sum .ensures .upper, l .loop .inv),
-      found-next (start l .args .rows .now) (l .loop .t) (l .loop .best) (c .least-sum .result) (l .loop .inv .0) (l .loop .inv .2) (c .least-sum .ensures),
+      found-next weight 33 (start l .args .rows .now) (l .loop .t) (l .loop .best) (c .least-sum .result) (l .loop .inv .0) (l .loop .inv .2) (c .least-sum .ensures),
     )
 
 returns-2 : tie.Need-returns-2 Inv-loop μ-loop
@@ -61,5 +62,5 @@ returns-3 c =
 pub least-weight-spec : {M : Type 1} → statement M
 least-weight-spec =
     tie.close
-    (tie.spec Inv-loop μ-loop (λ c. (search needs, search needs, found-start _)) (λ c. omega (arith, c .before .loop .inv)) walk-all-requires returns
+    (tie.spec Inv-loop μ-loop (λ c. (search needs, search needs, found-start weight 33 _)) (λ c. omega (arith, c .before .loop .inv)) walk-all-requires returns
     least-sum-requires add-t (λ c. omega (arith, c .before .before .before .loop-test .taken)) loop-again returns-2 returns-3)

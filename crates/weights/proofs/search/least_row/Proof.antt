@@ -1,15 +1,16 @@
--- `weights::distance::least_row`: the rows before p have been weighed. Assumes nothing.
+-- `weights::search::least_row`: the rows before p have been weighed. Assumes nothing.
 use mathlib.Core.Path.{_≡_, ap, _∙_}
 use Prim.Native.Nat.{_≤_, _-_, min}
 use native.Mathlib.Omega.{arith}
 use borrow.Author.Needs.{needs}
+use Rattle.coding.specs.Word.{weight}
 use Rattle.weights.specs.Inner.LeastSum.{LeastSum}
 use Rattle.weights.proofs.LeastSumLaws.{least-row-start, least-row-next}
-use Rattle.weights.proofs.distance.least_row.Statement.{statement}
-use Rattle.weights.proofs.distance.least_row.Tie as tie
+use Rattle.weights.proofs.search.least_row.Statement.{statement}
+use Rattle.weights.proofs.search.least_row.Tie as tie
 
 abbrev Inv-loop : tie.InvT-loop
-Inv-loop rows m base best least₀ p₀ least p = (p ≤ m) × LeastSum rows p 1 base best least
+Inv-loop rows m base best least₀ p₀ least p = (p ≤ m) × LeastSum weight rows p 1 base best least
 
 abbrev μ-loop : tie.MeasureT-loop
 μ-loop rows m base best least₀ p₀ least p = m - p
@@ -21,7 +22,7 @@ loop-again c =
     let l = t .before in
     let s = l .before .before in (
       omega arith,
-      least-row-next (s .args .rows .now) (l .loop .p) (s .args .base) (s .args .best) (l .loop .least) (c .lighter .result)
+      least-row-next weight (s .args .rows .now) (l .loop .p) (s .args .base) (s .args .best) (l .loop .least) (c .lighter .result)
           (omega (arith, s .pre, t .loop-test .taken)) (l .loop .inv .1) (c .lighter .ensures ∙ ap (min (l .loop .least)) (d .distance .ensures)),
     )
 
@@ -34,6 +35,6 @@ returns c =
 pub least-row-spec : {M : Type 1} → statement M
 least-row-spec =
     tie.close
-    (tie.spec Inv-loop μ-loop (λ c. (search needs, least-row-start _ _ _)) (λ c. search needs)
+    (tie.spec Inv-loop μ-loop (λ c. (search needs, least-row-start weight _ _ _)) (λ c. search needs)
     (λ c. omega (arith, c .before .before .before .before .pre, c .before .loop-test .taken)) (λ c κs. search needs)
     (λ c κs. search needs) (λ c. search needs) (λ c. search needs) loop-again returns)

@@ -1,18 +1,18 @@
--- `weights::distance::least_sum`: the sums whose rows lie before p have been weighed; in the calls the number of rows falls. Assumes nothing.
+-- `weights::search::least_sum`: the sums whose rows lie before p have been looked at; in the calls the number of rows falls. Assumes nothing.
 use mathlib.Core.Path.{_≡_}
 use Prim.Native.Nat.{ℕ, _+_, _-_, _≤_, _<_}
 use native.Mathlib.Omega.{arith}
 use borrow.Author.Needs.{needs}
 use borrow.Fn.Kinds.{In}
 use borrow.Fn.PlainCycle.{Measures, is, falls, and}
-use Rattle.weights.specs.Inner.LeastSum.{LeastSum}
+use Rattle.weights.specs.Inner.LeastSum.{LeastSum, soughtBy}
 use Rattle.weights.proofs.LeastSumLaws.{least-start, least-next}
-use Rattle.weights.proofs.distance.least_sum.Reads as least-sum
-use Rattle.weights.proofs.distance.least_sum.Kinds as least-sum-kinds
-use Rattle.weights.proofs.distance.+least_sum.Lts-least_sum as least-sum-lts
-use Rattle.weights.proofs.distance.least_row.Reads as least-row-reads
-use Rattle.weights.proofs.distance.+least_sum.{statement}
-use Rattle.weights.proofs.distance.+least_sum.Tie.{close}
+use Rattle.weights.proofs.search.least_sum.Reads as least-sum
+use Rattle.weights.proofs.search.least_sum.Kinds as least-sum-kinds
+use Rattle.weights.proofs.search.+least_sum.Lts-least_sum as least-sum-lts
+use Rattle.weights.proofs.search.least_of_rows.Reads as least-of-rows-reads
+use Rattle.weights.proofs.search.+least_sum.{statement}
+use Rattle.weights.proofs.search.+least_sum.Tie.{close}
 
 abbrev μ-least-sum : Measures 1 least-sum-kinds.ps ℕ
 μ-least-sum κs a = a .1 .0
@@ -25,25 +25,25 @@ least-sum-below t = and 1 least-sum-kinds.ps (falls 1 least-sum-kinds.ps _<_ μ-
 
 -- what the calls ask and give
 abbrev claims : ℕ → least-sum-lts.Claims
-claims t = (least-row-reads.Asked, least-row-reads.Learnt, least-sum-below t, least-sum.Post)
+claims t = (least-of-rows-reads.Asked, least-of-rows-reads.Learnt, least-sum-below t, least-sum.Post)
 
 abbrev Inv-loop : least-sum-lts.InvT-loop
-Inv-loop rows m t base best least₀ p₀ least p = (t ≤ p + 1) × (p ≤ m) × LeastSum rows p t base best least
+Inv-loop rows m t base w best least₀ p₀ least p = (t ≤ p + 1) × (p ≤ m) × LeastSum (soughtBy w) rows p t base best least
 
 abbrev μ-loop : least-sum-lts.MeasureT-loop
-μ-loop rows m t base best least₀ p₀ least p = m - p
+μ-loop rows m t base w best least₀ p₀ least p = m - p
 
 module _ (t : ℕ) where
-  requires-row : least-sum-lts.Need-least-row-requires (claims t) (least-sum-at t) least-sum.Post Inv-loop μ-loop
+  requires-row : least-sum-lts.Need-least-of-rows-requires (claims t) (least-sum-at t) least-sum.Post Inv-loop μ-loop
   requires-row c κs = c .before .before .pre .1 .0
 
   returns : least-sum-lts.Need-returns (claims t) (least-sum-at t) least-sum.Post Inv-loop μ-loop
-  returns c = rw (c .before .if1 .taken) (c .least-row .ensures)
+  returns c = rw (c .before .if1 .taken) (c .least-of-rows .ensures)
 
   loop-holds : least-sum-lts.Need-loop-holds (claims t) (least-sum-at t) least-sum.Post Inv-loop μ-loop
   loop-holds c =
       let s = c .before .before in
-      (omega (arith, s .pre), omega (arith, s .pre), least-start _ _ _ _ _ (omega (arith, s .pre)))
+      (omega (arith, s .pre), omega (arith, s .pre), least-start (soughtBy (s .args .w)) _ _ _ _ _ (omega (arith, s .pre)))
 
   sub-sum : least-sum-lts.Need-sub-least-sum (claims t) (least-sum-at t) least-sum.Post Inv-loop μ-loop
   sub-sum c = c .before .before .before .before .pre .1 .1
@@ -65,7 +65,7 @@ module _ (t : ℕ) where
       let a = e .before .before .args in (
         omega (arith, l .loop .inv),
         omega (arith, i .loop-test .taken),
-        least-next (a .rows .now) (l .loop .p) (a .t) (a .base) (a .best) (l .loop .least) (c .least-sum .result)
+        least-next (soughtBy (a .w)) (a .rows .now) (l .loop .p) (a .t) (a .base) (a .best) (l .loop .least) (c .least-sum .result)
             (omega (arith, e .before .before .pre, e .if1 .left)) (l .loop .inv .2) (c .least-sum .ensures),
       )
 
