@@ -100,6 +100,18 @@ static void middle_code(void) { dense(23, 12); }
 static void dense_code(void) { dense(28, 16); }
 static void longest_code(void) { dense(RELAY_MAX_PLACES, RELAY_MAX_ROWS); }
 
+/* The first random code of minimum distance 3; the one above has 4. */
+static void longest_of_3(void)
+{
+    do
+        longest_code();
+    while (block_distance(in.k, in.rows) != 3);
+}
+
+/* The most rows with which describe walks all codewords, and one more. */
+static void walked_code(void) { dense(25, 13); }
+static void summed_code(void) { dense(26, 14); }
+
 /* So many rows with a single one, from this place on: in the twelve other places no codeword has a one. */
 static void single_places(uint32_t k, uint32_t first)
 {
@@ -110,6 +122,7 @@ static void single_places(uint32_t k, uint32_t first)
 }
 
 static void single_code(void) { single_places(16, 0); }
+static void longest_single_code(void) { single_places(20, 0); }
 
 /* The zero places at the high end: every word of weight up to 12 is tried. */
 static void worst_code(void) { single_places(16, 0); in.tried = 76717268; }
@@ -391,7 +404,8 @@ static void run_plain(void) { theirs.length = plain_run(in.sheet, in.sheet_len, 
 
 #define DESCRIBE_CASE(name, prepare)                                                                                              \
     {"Describe", name, "Gray walk", prepare, describe_ours, describe_plain, {0}, 1, true, false, false},                          \
-    {"Describe", name, "walk in blocks", prepare, describe_ours, describe_plain, {.blocks = true}, 1, true, false, false}
+    {"Describe", name, "walk in blocks", prepare, describe_ours, describe_plain, {.blocks = true}, 1, true, false, false},        \
+    {"Describe", name, "by the dual", prepare, describe_ours, describe_plain, {.dual = true}, 1, true, false, false}
 
 #define LEADERS_CASE(name, prepare, timed)                                                                                        \
     {"Leaders", name, "recursion", prepare, leaders_ours, leaders_plain, {0}, 1, false, false, timed},                            \
@@ -441,11 +455,15 @@ const Case cases[] = {
     DESCRIBE_CASE("random (7,4)", small_code),
     DESCRIBE_CASE("random (23,12)", middle_code),
     DESCRIBE_CASE("perfect (23,12)", perfect_code),
+    DESCRIBE_CASE("random (25,13)", walked_code),
+    DESCRIBE_CASE("random (26,14)", summed_code),
     DESCRIBE_CASE("dense (28,16)", dense_code),
     DESCRIBE_CASE("extended BCH (28,16)", bch_code),
     DESCRIBE_CASE("single places (28,16)", single_code),
     DESCRIBE_CASE("dense (32,20)", longest_code),
+    DESCRIBE_CASE("random (32,20), dmin 3", longest_of_3),
     DESCRIBE_CASE("extended BCH (32,20)", longest_bch_code),
+    DESCRIBE_CASE("single places (32,20)", longest_single_code),
     LEADERS_CASE("dense (28,16)", dense_code, false),
     LEADERS_CASE("extended BCH (28,16)", bch_leaders, false),
     LEADERS_CASE("dense (32,20)", longest_code, false),

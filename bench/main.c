@@ -13,7 +13,7 @@
 #include <string.h>
 #include <time.h>
 
-/* In nanoseconds: about so long is a round, so that most of them pass undisturbed; and a run from which on few are made. */
+/* In nanoseconds: about so long is a round of the slower side, so that most of them pass undisturbed; and a run from which on few are made. */
 #define SLICE 3e5
 #define SLOW 1e7
 
@@ -55,7 +55,7 @@ static int check(const Case *c)
 /* The least nanoseconds of a run of each side, all words and, where that is subtracted, none of them; taken in turn. */
 static void time_both(const Case *c)
 {
-    double once = timed(c->ours, 1), best[4] = {1e18, 1e18, 1e18, 1e18};
+    double ours = timed(c->ours, 1), plain = timed(c->plain, 1), once = ours > plain ? ours : plain, best[4] = {1e18, 1e18, 1e18, 1e18};
     long times = (long)(SLICE / once) + 1;
     int kinds = c->less ? 4 : 2, rounds = once > SLOW ? 5 : 300;
     for (int i = 0; i < kinds * rounds; i++) {

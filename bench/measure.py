@@ -21,8 +21,8 @@ OTHER_GOALS = {"twelve tests side by side": 1.1}
 WORD_INSTRUCTIONS = {"Words, Hamming (7,4)": 35, "Words, perfect (23,12)": 105, "Words, extended Golay (24,12)": 105}
 # Of a bit that is interleaved or deinterleaved; and the decode after it, beside these, by a decode of the same words.
 BIT_INSTRUCTIONS, SAME_WORDS, SAME_WORDS_GOAL = 8, "relay_decode of the words", 1.1
-# The largest code: Describe by sixteen times that of a code with four rows fewer.
-LARGEST, FOUR_ROWS_FEWER, WALK_GOAL = "dense (32,20)", "dense (28,16)", 1.05
+# Of Describe, in thousands: of two codes, and of each case.
+DESCRIBE_THOUSANDS, DESCRIBE_LIMIT = {"dense (32,20)": 110, "dense (28,16)": 130}, 1500
 PROGRAM = os.path.join("target", "bin", "decode_sheet")
 # The C library sets long runs of bytes by one instruction, which callgrind counts once a byte: the threshold keeps it from that. All symbols
 # are bound before main.
@@ -133,10 +133,11 @@ def interleaving_rows(results):
     yield goal_row(title, SAME_WORDS_GOAL, SAME_WORDS, "", decoded)
 
 
-def largest_row(described):
-    figures = {r.case.name: r.library[0] for r in described}
-    walked = [(figures[LARGEST] / (16 * figures[FOUR_ROWS_FEWER]), LARGEST)]
-    return goal_row("describe by sixteen times that of four rows fewer", WALK_GOAL, "", "", walked)
+def describe_rows(results):
+    figures = {r.case.name: r.library[0] / 1e3 for r in results}
+    for name, goal in DESCRIBE_THOUSANDS.items():
+        yield goal_row("thousand instructions of describe", goal, "", "", [(figures[name], name)])
+    yield goal_row("thousand instructions of describe, each case", DESCRIBE_LIMIT, "", "", [(x, name) for name, x in figures.items()])
 
 
 def word_rows(sections):
@@ -173,9 +174,9 @@ def main():
         sections[case.section].append(measure(directory, case, known))
         print(case.section, case.name, case.plain, sections[case.section][-1], sep="; ", file=sys.stderr)
     print(open(os.path.join(os.path.dirname(__file__), "head.md")).read() + machine())
-    print("## Goals\n\nThe greatest ratio of instructions among the cases below; of a bit and a decoded word the instructions themselves.\n")
+    print("## Goals\n\nThe greatest ratio of instructions among the cases below; of describe, a bit and a decoded word the instructions themselves.\n")
     rows = [row for section, title, goal in GOALS for row in goal_rows(title, goal, sections[section])]
-    rows += [largest_row(sections["Describe"]), *word_rows(sections), *interleaving_rows(sections["Interleaving"])]
+    rows += [*describe_rows(sections["Describe"]), *word_rows(sections), *interleaving_rows(sections["Interleaving"])]
     print(table(["Goal", "C", "build", "greatest ratio", ""], rows))
     print("## Programs: sheets of 512 words\n")
     print(table(["Code", "decode_sheet", "C program", "ratio", "goal", ""], list(program_rows(directory))))

@@ -25,6 +25,7 @@ static inline unsigned ones(uint32_t x)
 /* How the plain side works; what is false is done in the plainest way. */
 typedef struct {
     bool blocks; /* codewords are walked in blocks, not in Gray order */
+    bool dual;   /* the weights by way of the check rows, not by a walk over all codewords */
     bool rows;   /* the minimum distance alone by rising number of reduced rows, not by a walk over all codewords */
     bool loops;  /* the leaders' last two ones are placed in loops, not by recursion */
     bool batch;  /* syndromes by parities one check row after the other over all words, not word by word */
@@ -37,6 +38,11 @@ extern Ways ways;
 
 void gray_walk(uint32_t k, const uint32_t *rows, uint32_t counts[33], uint32_t *dmin, uint32_t *lightest);
 void block_walk(uint32_t k, const uint32_t *rows, uint32_t counts[33], uint32_t *dmin, uint32_t *lightest);
+/* Counts the sums of the rows by weight, in blocks. */
+void block_counts(uint32_t k, const uint32_t *rows, uint32_t counts[33]);
+/* Of reduced rows and check rows. */
+void by_dual(uint32_t n, uint32_t k, const uint32_t *reduced, const uint32_t *checks, uint32_t counts[33], uint32_t *dmin,
+             uint32_t *lightest);
 uint32_t gray_distance(uint32_t k, const uint32_t *rows);
 uint32_t block_distance(uint32_t k, const uint32_t *rows);
 /* Of reduced rows. */

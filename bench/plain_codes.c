@@ -94,7 +94,9 @@ uint32_t plain_describe(uint32_t n, uint32_t k, const uint32_t *rows, size_t row
         return number;
     reduced_rows(n, &p, reduced);
     check_rows(n, &p, checks);
-    if (ways.blocks)
+    if (ways.dual)
+        by_dual(n, k, reduced, checks, counts, dmin, lightest);
+    else if (ways.blocks)
         block_walk(k, rows, counts, dmin, lightest);
     else
         gray_walk(k, rows, counts, dmin, lightest);

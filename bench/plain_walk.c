@@ -43,6 +43,15 @@ static uint32_t fill_block(uint32_t k, const uint32_t *rows, uint32_t *block)
     return b;
 }
 
+/* The weights of a block with base added, and each of them counted. */
+static inline void count_block(const uint32_t *block, uint32_t size, uint32_t base, uint32_t *weights, uint32_t counts[33])
+{
+    for (uint32_t j = 0; j < size; j++)
+        weights[j] = ones(block[j] ^ base);
+    for (uint32_t j = 0; j < size; j++)
+        counts[weights[j]]++;
+}
+
 /* The smallest word of this weight in a block with base added, or best. */
 static uint32_t smallest(const uint32_t *block, const uint32_t *weights, uint32_t size, uint32_t base, uint32_t weight, uint32_t best)
 {
@@ -59,10 +68,7 @@ void block_walk(uint32_t k, const uint32_t *rows, uint32_t counts[33], uint32_t 
     for (uint32_t h = 0; h < 1u << (k - b); h++) {
         if (h)
             base ^= rows[b + (uint32_t)__builtin_ctz(h)];
-        for (uint32_t j = 0; j < size; j++)
-            weights[j] = ones(block[j] ^ base);
-        for (uint32_t j = 0; j < size; j++)
-            counts[weights[j]]++;
+        count_block(block, size, base, weights, counts);
         uint32_t least = 1;
         while (least < *dmin && !counts[least])
             least++;
@@ -75,6 +81,16 @@ void block_walk(uint32_t k, const uint32_t *rows, uint32_t counts[33], uint32_t 
             *lightest = smallest(block, weights, size, base, least, *lightest);
             met = counts[least];
         }
+    }
+}
+
+void block_counts(uint32_t k, const uint32_t *rows, uint32_t counts[33])
+{
+    uint32_t block[BLOCK], weights[BLOCK], base = 0, b = fill_block(k, rows, block), size = 1u << b;
+    for (uint32_t h = 0; h < 1u << (k - b); h++) {
+        if (h)
+            base ^= rows[b + (uint32_t)__builtin_ctz(h)];
+        count_block(block, size, base, weights, counts);
     }
 }
 

@@ -81,6 +81,8 @@ enum {
  * Written: the k reduced rows, the n - k parity-check rows and how many codewords there are of each weight 0 to n, each list 0
  * after these; the minimum distance; and the lightest codeword, the smallest number among the nonzero codewords of that weight,
  * which is the same for every matrix of the code. On a refusal all of them become 0.
+ * Time: 0.3 us with a (7,4) code, 5 us with random (23,12) rows, 6 to 12 us with random (28,16) or (32,20) rows, more where the minimum
+ * distance is large: 69 us with (32,20) rows of minimum distance 6, the slowest found (AMD EPYC, 2.6 GHz).
  * Stack: about 5 kB. */
 uint32_t relay_describe(uint32_t n, uint32_t k, const uint32_t *rows, size_t rows_len,
                         uint32_t reduced[RELAY_MAX_ROWS], uint32_t checks[RELAY_MAX_CHECKS], uint32_t weight_counts[RELAY_WEIGHTS],

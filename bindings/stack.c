@@ -1,5 +1,5 @@
 /* How much stack each call of the library takes: in a thread of its own the stack is filled with a mark, the call is made, and
- * what lost the mark is counted, for two codes, of which the larger figure is taken. Prints a line for each call; exit status 1 where
+ * what lost the mark is counted, for three codes, of which the largest figure is taken. Prints a line for each call; exit status 1 where
  * one takes more than relaymarten.h states, or less than half of it. The statements are the second column of `calls`; bindings/check
  * compares them with the header. Link with -pthread -Wl,-z,now, so that no call of the C library is bound while it is measured. */
 #define _GNU_SOURCE
@@ -41,6 +41,16 @@ static void prepare_walked(void)
     k = 12;
     for (uint32_t i = 0; i < k; i++)
         rows[i] = 0xC75u << i | (uint32_t)(__builtin_popcount(0xC75u) & 1) << 23;
+    prepare_words();
+}
+
+/* Rows of an extended BCH code: the lightest codeword takes the sums of up to six rows. */
+static void prepare_summed(void)
+{
+    n = N;
+    k = K;
+    for (uint32_t i = 0; i < k; i++)
+        rows[i] = 0x769u << (i < 5 ? i : i + 1) | 1u << 31;
     prepare_words();
 }
 
@@ -223,12 +233,18 @@ static size_t measured(void (*prepare)(void), void (*call)(void))
 
 int main(void)
 {
+    void (*const prepared[])(void) = {prepare_deepest, prepare_walked, prepare_summed};
     int wrong = 0;
     for (size_t i = 0; i < sizeof calls / sizeof *calls; i++) {
-        size_t deepest = measured(prepare_deepest, calls[i].call), walked = measured(prepare_walked, calls[i].call);
-        size_t bytes = deepest > walked ? deepest : walked, stated = calls[i].stated;
-        int refused = deepest == 0 || walked == 0, bad = refused || bytes > 1000 * stated || (stated > 1 && bytes < 500 * stated);
-        printf("%s %zu bytes of stack%s\n", calls[i].name, bytes, refused ? ", REFUSED" : bad ? ", NOT AS STATED" : "");
+        size_t most = 0, stated = calls[i].stated;
+        int refused = 0;
+        for (size_t j = 0; j < sizeof prepared / sizeof *prepared; j++) {
+            size_t bytes = measured(prepared[j], calls[i].call);
+            refused |= bytes == 0;
+            most = bytes > most ? bytes : most;
+        }
+        int bad = refused || most > 1000 * stated || (stated > 1 && most < 500 * stated);
+        printf("%s %zu bytes of stack%s\n", calls[i].name, most, refused ? ", REFUSED" : bad ? ", NOT AS STATED" : "");
         wrong |= bad;
     }
     return wrong;

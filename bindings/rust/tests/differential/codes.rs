@@ -1,12 +1,21 @@
 //! Any generator matrix.
-use crate::inputs::{how_many, largest, matrix, matrix_in, received, slots, spoil, Matrix};
+use crate::inputs::{add_rows, how_many, largest, matrix, matrix_in, received, slots, spoil, Matrix};
 use crate::random::Random;
 use crate::{cause, causes, outcome, plain, told, Cause};
-use relaymarten::{raw, Lent, Outcome, Reading, Refusal, MAX_CHECKS, MAX_LEADERS, MAX_ROWS, WEIGHTS};
+use relaymarten::{raw, Description, Lent, Outcome, Reading, Refusal, MAX_CHECKS, MAX_LEADERS, MAX_ROWS, WEIGHTS};
 use std::collections::BTreeSet;
 
 fn padded<const N: usize>(list: Vec<u32>) -> [u32; N] {
     std::array::from_fn(|i| list.get(i).copied().unwrap_or(0))
+}
+
+/// Every part of a description.
+pub fn compare_description(m: &Matrix, d: &Description, code: &plain::Code) {
+    assert_eq!(d.reduced, padded(code.reduced()), "{m:?}");
+    assert_eq!(d.checks, padded(code.checks()), "{m:?}");
+    assert_eq!(d.weight_counts, padded(code.weight_counts()), "{m:?}");
+    assert_eq!(d.dmin, code.dmin(), "{m:?}");
+    assert_eq!(d.lightest, code.lightest(), "{m:?}");
 }
 
 #[test]
@@ -18,13 +27,7 @@ fn describe() {
         let ours = told(relaymarten::describe(m.n, m.k, &m.rows));
         seen.insert(cause(&ours));
         match (ours, plain::accept(m.n, m.k, &m.rows)) {
-            (Ok(d), Ok(code)) => {
-                assert_eq!(d.reduced, padded(code.reduced()), "{m:?}");
-                assert_eq!(d.checks, padded(code.checks()), "{m:?}");
-                assert_eq!(d.weight_counts, padded(code.weight_counts()), "{m:?}");
-                assert_eq!(d.dmin, code.dmin(), "{m:?}");
-                assert_eq!(d.lightest, code.lightest(), "{m:?}");
-            }
+            (Ok(d), Ok(code)) => compare_description(&m, &d, &code),
             (ours, theirs) => assert_eq!(ours.err(), theirs.err(), "{m:?}"),
         }
     }
@@ -329,12 +332,7 @@ fn distances() {
         let degree = polynomial.ilog2();
         for k in 1..=(32 - degree).min(20) {
             let mut rows: Vec<u32> = (0..k).map(|i| polynomial << i).collect();
-            for _ in 0..2 * k {
-                let (a, b) = (r.below(rows.len()), r.below(rows.len()));
-                if a != b {
-                    rows[a] ^= rows[b];
-                }
-            }
+            add_rows(&mut r, &mut rows, 2 * k as usize);
             let dmin = plain::accept(degree + k, k, &rows).expect("independent rows").dmin();
             met.insert((k > 12, dmin));
             let mut work = vec![0; MAX_LEADERS];

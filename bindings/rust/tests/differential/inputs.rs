@@ -9,8 +9,18 @@ pub struct Matrix {
     pub rows: Vec<u32>,
 }
 
+/// Adds a row to another, so many times or fewer: the code stays.
+pub fn add_rows(r: &mut Random, rows: &mut [u32], times: usize) {
+    for _ in 0..times {
+        let (i, j) = (r.below(rows.len()), r.below(rows.len()));
+        if i != j {
+            rows[i] ^= rows[j];
+        }
+    }
+}
+
 /// Independent rows: a one at a place of its own in each, then rows added to rows.
-fn independent(r: &mut Random, n: u32, k: usize) -> Vec<u32> {
+pub fn independent(r: &mut Random, n: u32, k: usize) -> Vec<u32> {
     let mut places: Vec<u32> = (0..n).collect();
     for i in 0..k {
         let j = i + r.below(n as usize - i);
@@ -18,12 +28,8 @@ fn independent(r: &mut Random, n: u32, k: usize) -> Vec<u32> {
     }
     let own: u32 = places[..k].iter().map(|p| 1 << p).sum();
     let mut rows: Vec<u32> = places[..k].iter().map(|p| (r.word(n) & !own) | 1 << p).collect();
-    for _ in 0..r.below(3 * k) {
-        let (i, j) = (r.below(k), r.below(k));
-        if i != j {
-            rows[i] ^= rows[j];
-        }
-    }
+    let times = r.below(3 * k);
+    add_rows(r, &mut rows, times);
     rows
 }
 

@@ -5,6 +5,7 @@
 //! The inputs are the same at each run. RELAY_SEED=NUMBER, decimal and below 2^64, gives others, each number its own; an empty
 //! one is as none, and anything else fails every test. A failing test prints the seed it had.
 mod codes;
+mod descriptions;
 mod golay;
 mod hsiao;
 mod inputs;
