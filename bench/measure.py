@@ -21,8 +21,8 @@ OTHER_GOALS = {"twelve tests side by side": 1.1}
 WORD_INSTRUCTIONS = {"Words, Hamming (7,4)": 35, "Words, perfect (23,12)": 105, "Words, extended Golay (24,12)": 105}
 # Of a bit that is interleaved or deinterleaved; and the decode after it, beside these, by a decode of the same words.
 BIT_INSTRUCTIONS, SAME_WORDS, SAME_WORDS_GOAL = 8, "relay_decode of the words", 1.1
-# Of Describe, in thousands: of two codes, and of each case.
-DESCRIBE_THOUSANDS, DESCRIBE_LIMIT = {"dense (32,20)": 110, "dense (28,16)": 130}, 1500
+# Of Describe, in thousands: of three codes, and of each case.
+DESCRIBE_THOUSANDS, DESCRIBE_LIMIT = {"random (32,20), dmin 3": 110, "dense (32,20)": 110, "dense (28,16)": 130}, 1500
 PROGRAM = os.path.join("target", "bin", "decode_sheet")
 # The C library sets long runs of bytes by one instruction, which callgrind counts once a byte: the threshold keeps it from that. All symbols
 # are bound before main.
