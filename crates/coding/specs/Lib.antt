@@ -6,7 +6,7 @@ pub mod Reduce  -- how it is computed
 pub mod Check  -- check rows and syndromes
 pub mod Lightest  -- the lightest, then smallest of the numbers that pass a test
 pub mod Weight  -- weight counts, minimum distance, the lightest codeword
-pub mod Dual  -- what the MacWilliams identity speaks of
+pub mod Dual  -- the dual code and the MacWilliams identity
 pub mod Leader  -- coset leaders
 pub mod Order  -- words by weight and number, and the list they fill
 pub mod Tries  -- how many of them are tried, and the place of the last leader

@@ -36,9 +36,9 @@ pub record Lent : Type 0 where
   pub work : List ℕ
 
 -- Decode either refuses under 1 to 9 with every list unchanged, or succeeds; at 32 places every number is a word, so that 3 and 7 never
--- arise (02, No. 7). Every syndrome of an accepted matrix has a leader (02, No. 6). On success slot i of the codewords and of the counts is the answer to word i, 255 meaning far, the working list
--- holds the leaders, and later slots are as they were; dmin is the minimum distance, demand 3 holds of every word of the batch, in
--- either reading, and a word is clean exactly when its count is 0
+-- arise (02, No. 7). Every syndrome of an accepted matrix has a leader (02, No. 6). On success slot i of the codewords and of the
+-- counts is the answer to word i, 255 meaning far, the working list holds the leaders, and later slots are as they were; dmin is the
+-- minimum distance, demand 3 holds of every word of the batch, in either reading, and a word is clean exactly when its count is 0
 pub record Decoded (B : Batch) (before : Lent) (r : Answer) (after : Lent) : Type 0 where
   pub answer : r ≡ decodeAnswer (B .n) (B .k) (B .rows) (B .reading) (B .words) (length (before .codewords)) (length (before .counts)) (length (before .work))
   pub either : ((c : Refusal) × (r ≡ Refused c) × Between 1 9 (numberOf c) × (after ≡ before)) ⊎ (r ≡ Done)

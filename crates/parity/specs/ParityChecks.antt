@@ -17,8 +17,8 @@ use Rattle.words.specs.declared.answer.Answer.the-variants.{Done}
 use Rattle.parity.specs.declared.check.ParityChecks.{ParityChecks}
 use Rattle.parity.specs.declared.check.Code.{Code}
 
--- causes 1 to 4, at 32 places never 3; the n - k check rows and 0 after them, or 0 at every entry; and for an accepted matrix they are the check rows of
--- its places that are no pivot, and a word of n places is a codeword exactly when its syndrome by them is 0
+-- causes 1 to 4, at 32 places never 3; the n - k check rows and 0 after them, or 0 at every entry; and for an accepted matrix they are
+-- the check rows of its places that are no pivot, and a word of n places is a codeword exactly when its syndrome by them is 0
 pub record ParityChecksOf (n k : ℕ) (rows : List ℕ) (r : ParityChecks) : Type 0 where
   pub answer : r .answer ≡ matrixAnswer n k rows
   pub every-row : EveryRow n (r .answer)
