@@ -10,17 +10,19 @@ use borrow.Author.Tests.{leb-true, le-leb, lt-leb, eq-eqb}
 use Rattle.coding.specs.Matrix.{Inside}
 use Rattle.coding.specs.Weight.{dmin}
 use Rattle.words.specs.Limits.{maxWords, width}
-use Rattle.words.specs.Refusal.{numberOf, andThen, Between, EveryRow, ifDone}
+use Rattle.answers.specs.Refusal.{numberOf, andThen, Between, ifDone}
+use Rattle.words.specs.Widest.{EveryRow}
 use Rattle.words.specs.Shape.{firstOutside}
 use Rattle.words.specs.Accepted.{matrixAnswer, Accepted}
 use Rattle.words.proofs.AcceptedLaws.{accepted-in, matrix-numbered, matrix-passes}
 use Rattle.words.specs.Lists.{roomAnswer, listAnswer}
-use Rattle.words.specs.declared.answer.Refusal.{Refusal}
-use Rattle.words.specs.declared.answer.Refusal.the-variants.{RadiusTooLarge, ShortOutput, ShortWork}
-use Rattle.words.specs.declared.answer.Answer.{Answer}
-use Rattle.words.specs.declared.answer.Answer.the-variants.{Done, Refused}
-use Rattle.words.proofs.AnswerLaws.{unless-done, andThen-done, andThen-assoc, stays, goes}
-use Rattle.words.proofs.AnswerLaws.{Numbered, Neither, neither, unless-numbered, andThen-numbered, numbered-as, never-of, rows-first}
+use Rattle.answers.specs.declared.answer.Refusal.{Refusal}
+use Rattle.answers.specs.declared.answer.Refusal.the-variants.{RadiusTooLarge, ShortOutput, ShortWork}
+use Rattle.answers.specs.declared.answer.Answer.{Answer}
+use Rattle.answers.specs.declared.answer.Answer.the-variants.{Done, Refused}
+use Rattle.answers.proofs.AnswerLaws.{unless-done, andThen-done, andThen-assoc, stays, goes}
+use Rattle.answers.proofs.AnswerLaws.{Numbered, Neither, neither, unless-numbered, andThen-numbered, numbered-as, never-of}
+use Rattle.words.proofs.ShapeLaws.{rows-first}
 use Rattle.words.proofs.ShapeLaws.{inside-none}
 use Rattle.words.proofs.WordListLaws.{Listed, list-in, list-numbered, list-passes}
 use Rattle.weights.specs.Distance.{DistanceOf}

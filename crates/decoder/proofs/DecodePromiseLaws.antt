@@ -11,10 +11,10 @@ use Rattle.coding.specs.Check.{checks, syndrome}
 use Rattle.coding.specs.Weight.{dmin}
 use Rattle.words.specs.Limits.{width}
 use Rattle.words.specs.Accepted.{Accepted}
-use Rattle.words.specs.declared.answer.Refusal.{Refusal}
-use Rattle.words.specs.declared.answer.Answer.{Answer}
-use Rattle.words.specs.declared.answer.Answer.the-variants.{Done, Refused}
-use Rattle.words.proofs.AnswerLaws.{refused-done, never, never-done, kept, filled, written}
+use Rattle.answers.specs.declared.answer.Refusal.{Refusal}
+use Rattle.answers.specs.declared.answer.Answer.{Answer}
+use Rattle.answers.specs.declared.answer.Answer.the-variants.{Done, Refused}
+use Rattle.answers.proofs.AnswerLaws.{refused-done, never, never-done, kept, filled, written}
 use Rattle.words.proofs.AcceptedLaws.{accepted-in}
 use Rattle.words.proofs.CodeLaws.{distance-is, syndrome-below, leader-at, every-leader}
 use Rattle.leaders.specs.Leaders.{leadersList}

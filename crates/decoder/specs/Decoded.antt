@@ -9,11 +9,12 @@ use Rattle.coding.specs.Matrix.{Codeword}
 use Rattle.coding.specs.Weight.{dmin, MinimumDistance}
 use Rattle.coding.specs.Leader.{IsLeader, EveryLeader}
 use Rattle.coding.specs.Radius.{NearestRule, RadiusRules}
-use Rattle.words.specs.Refusal.{numberOf, Between, EveryWord, onDone}
+use Rattle.answers.specs.Refusal.{numberOf, Between, onDone}
+use Rattle.words.specs.Widest.{EveryWord}
 use Rattle.words.specs.Accepted.{Accepted}
-use Rattle.words.specs.declared.answer.Refusal.{Refusal}
-use Rattle.words.specs.declared.answer.Answer.{Answer}
-use Rattle.words.specs.declared.answer.Answer.the-variants.{Done, Refused}
+use Rattle.answers.specs.declared.answer.Refusal.{Refusal}
+use Rattle.answers.specs.declared.answer.Answer.{Answer}
+use Rattle.answers.specs.declared.answer.Answer.the-variants.{Done, Refused}
 use Rattle.leaders.specs.Leaders.{leadersList}
 use Rattle.outcomes.specs.Outcome.{decodedAs, wordOf, countOf}
 use Rattle.decoder.specs.Causes.{decodeAnswer}

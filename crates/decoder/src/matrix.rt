@@ -2,7 +2,7 @@
 use outcomes::Reading;
 use parity::code_of;
 use weights::distance_of;
-use words::answer::Answer;
+use answers::Answer;
 use words::limits::MAX_CHECKS;
 ghost use mathlib.Core.Path.{_≡_};
 ghost use Rattle.decoder.specs.Inner.Known.{asked, KnownOf};

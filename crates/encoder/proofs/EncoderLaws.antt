@@ -21,13 +21,15 @@ use Rattle.coding.proofs.CheckRowLaws.{syndrome-codeword}
 use Rattle.coding.proofs.TraceLaws.{message-trace, trace-message}
 use Rattle.coding.proofs.WidthLaws.{inside-wide}
 use Rattle.words.specs.Limits.{width}
-use Rattle.words.specs.Refusal.{andThen, Between, EveryRow, onDone}
+use Rattle.answers.specs.Refusal.{andThen, Between, onDone}
+use Rattle.words.specs.Widest.{EveryRow}
 use Rattle.words.specs.Lists.{listAnswer}
-use Rattle.words.specs.declared.answer.Refusal.the-variants.{NoCodeword}
-use Rattle.words.specs.declared.answer.Answer.{Answer}
-use Rattle.words.specs.declared.answer.Answer.the-variants.{Done}
+use Rattle.answers.specs.declared.answer.Refusal.the-variants.{NoCodeword}
+use Rattle.answers.specs.declared.answer.Answer.{Answer}
+use Rattle.answers.specs.declared.answer.Answer.the-variants.{Done}
 use Rattle.words.proofs.WordListLaws.{list-in, list-numbered, list-passes}
-use Rattle.words.proofs.AnswerLaws.{goes, Numbered, Neither, neither, unless-numbered, andThen-numbered, never, never-of, rows-first}
+use Rattle.answers.proofs.AnswerLaws.{goes, Numbered, Neither, neither, unless-numbered, andThen-numbered, never, never-of}
+use Rattle.words.proofs.ShapeLaws.{rows-first}
 use Rattle.words.specs.Accepted.{matrixAnswer, Accepted}
 use Rattle.words.proofs.AcceptedLaws.{accepted-in, matrix-passes}
 use Rattle.words.proofs.CodeLaws.{one-is, back-is}

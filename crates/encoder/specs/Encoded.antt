@@ -6,9 +6,10 @@ use lib.ListN.{length}
 use Rattle.coding.specs.Word.{bit, parity}
 use Rattle.coding.specs.Matrix.{encode, messageOf}
 use Rattle.coding.specs.Check.{column}
-use Rattle.words.specs.Refusal.{andThen, EveryRow, onDone}
+use Rattle.answers.specs.Refusal.{andThen, onDone}
+use Rattle.words.specs.Widest.{EveryRow}
 use Rattle.words.specs.Lists.{listAnswer}
-use Rattle.words.specs.declared.answer.Answer.{Answer}
+use Rattle.answers.specs.declared.answer.Answer.{Answer}
 use Rattle.words.specs.Accepted.{matrixAnswer, Accepted}
 
 -- causes 1 to 4 and 6 to 8

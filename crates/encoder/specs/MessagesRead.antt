@@ -5,12 +5,13 @@ use mathlib.Core.Bool.{Bool, not}
 use Prim.Native.Nat.{ℕ, _^_, _<_}
 use lib.ListN.{length, getD}
 use Rattle.coding.specs.Matrix.{encode, Codeword, IsMessage, messageOf, isCodeword}
-use Rattle.words.specs.Refusal.{refuseFirst, andThen, EveryWord, onDone}
+use Rattle.answers.specs.Refusal.{refuseFirst, andThen, onDone}
+use Rattle.words.specs.Widest.{EveryWord}
 use Rattle.words.specs.Accepted.{matrixAnswer, Accepted}
 use Rattle.words.specs.Lists.{listAnswer}
-use Rattle.words.specs.declared.answer.Refusal.the-variants.{NoCodeword}
-use Rattle.words.specs.declared.answer.Answer.{Answer}
-use Rattle.words.specs.declared.answer.Answer.the-variants.{Done}
+use Rattle.answers.specs.declared.answer.Refusal.the-variants.{NoCodeword}
+use Rattle.answers.specs.declared.answer.Answer.{Answer}
+use Rattle.answers.specs.declared.answer.Answer.the-variants.{Done}
 
 -- word i is no codeword
 abbrev pub other : List ℕ → List ℕ → ℕ → Bool

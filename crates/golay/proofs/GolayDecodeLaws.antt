@@ -18,9 +18,9 @@ use Rattle.coding.proofs.WeightLaws.{weight-zero, weight-none}
 use Rattle.coding.proofs.MatrixLaws.{codeword-lt}
 use Rattle.coding.proofs.SystematicLaws.{systematic-syndrome, systematic-syndrome-xor, systematic-message, systematic-codeword}
 use Rattle.coding.proofs.SearchLaws.{codeword-test, codeword-fails}
-use Rattle.words.specs.declared.answer.Refusal.the-variants.{WordOutside, NoCodeword}
-use Rattle.words.specs.declared.answer.Answer.the-variants.{Done, Refused}
-use Rattle.words.proofs.AnswerLaws.{refused-done}
+use Rattle.answers.specs.declared.answer.Refusal.the-variants.{WordOutside, NoCodeword}
+use Rattle.answers.specs.declared.answer.Answer.the-variants.{Done, Refused}
+use Rattle.answers.proofs.AnswerLaws.{refused-done}
 use Rattle.words.proofs.CodeLaws.{one-is, back-is}
 use Rattle.outcomes.specs.Outcome.{outcomeOf, wordIn, countIn}
 use Rattle.outcomes.specs.declared.ending.Reading.the-variants.{Within}

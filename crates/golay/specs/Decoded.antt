@@ -7,10 +7,10 @@ use Rattle.coding.specs.Word.{distance}
 use Rattle.coding.specs.Matrix.{Codeword}
 use Rattle.coding.specs.Weight.{MinimumDistance}
 use Rattle.coding.specs.Radius.{RadiusRules}
-use Rattle.words.specs.Refusal.{unless, ifDone}
-use Rattle.words.specs.declared.answer.Refusal.the-variants.{WordOutside}
-use Rattle.words.specs.declared.answer.Answer.{Answer}
-use Rattle.words.specs.declared.answer.Answer.the-variants.{Done}
+use Rattle.answers.specs.Refusal.{unless, ifDone}
+use Rattle.answers.specs.declared.answer.Refusal.the-variants.{WordOutside}
+use Rattle.answers.specs.declared.answer.Answer.{Answer}
+use Rattle.answers.specs.declared.answer.Answer.the-variants.{Done}
 use Rattle.outcomes.specs.Outcome.{wordIn, countIn, decodedAs}
 use Rattle.outcomes.specs.declared.ending.Reading.the-variants.{Within}
 use Rattle.outcomes.specs.declared.ending.Outcome.{Outcome}

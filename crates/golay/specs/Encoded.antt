@@ -3,10 +3,10 @@ use mathlib.Core.Path.{_≡_}
 use Prim.Native.Nat.{ℕ, _^_, _<_}
 use lib.Dec.{ltb}
 use Rattle.coding.specs.Matrix.{encode, messageOf}
-use Rattle.words.specs.Refusal.{unless, ifDone}
-use Rattle.words.specs.declared.answer.Refusal.the-variants.{WordOutside}
-use Rattle.words.specs.declared.answer.Answer.{Answer}
-use Rattle.words.specs.declared.answer.Answer.the-variants.{Done}
+use Rattle.answers.specs.Refusal.{unless, ifDone}
+use Rattle.answers.specs.declared.answer.Refusal.the-variants.{WordOutside}
+use Rattle.answers.specs.declared.answer.Answer.{Answer}
+use Rattle.answers.specs.declared.answer.Answer.the-variants.{Done}
 use Rattle.golay_code.specs.Golay.{golayRows}
 use Rattle.golay.specs.declared.encoding.Encoding.{Encoding}
 

@@ -1,7 +1,7 @@
 // Encode: the check places of a message, then the message.
 use crate::rows::check_sum;
-use words::answer::Answer;
-use words::answer::Refusal;
+use answers::Answer;
+use answers::Refusal;
 use words::word::fits;
 ghost use Rattle.golay.specs.Encoded.{Encoded};
 

@@ -1,7 +1,7 @@
 // Message: a codeword is read back to its message, places 12 to 23.
 use crate::rows::syndrome;
-use words::answer::Answer;
-use words::answer::Refusal;
+use answers::Answer;
+use answers::Refusal;
 use words::word::fits;
 ghost use Rattle.golay.specs.MessageRead.{MessageRead};
 

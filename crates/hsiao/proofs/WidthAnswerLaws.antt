@@ -8,11 +8,11 @@ use borrow.Author.Tests.{eqb-true, eq-eqb, ltb-true}
 use Rattle.coding.specs.Matrix.{encode}
 use Rattle.coding.specs.Columns.{splitSyndrome, SplitCodeword}
 use Rattle.coding.proofs.MatrixLaws.{encode-take}
-use Rattle.words.specs.Refusal.{unless}
-use Rattle.words.specs.declared.answer.Refusal.{Refusal}
-use Rattle.words.specs.declared.answer.Refusal.the-variants.{NoWidth, BeyondWidth, NoCodeword}
-use Rattle.words.specs.declared.answer.Answer.the-variants.{Done, Refused}
-use Rattle.words.proofs.AnswerLaws.{refused-done, unless-done}
+use Rattle.answers.specs.Refusal.{unless}
+use Rattle.answers.specs.declared.answer.Refusal.{Refusal}
+use Rattle.answers.specs.declared.answer.Refusal.the-variants.{NoWidth, BeyondWidth, NoCodeword}
+use Rattle.answers.specs.declared.answer.Answer.the-variants.{Done, Refused}
+use Rattle.answers.proofs.AnswerLaws.{refused-done, unless-done}
 use Rattle.hsiao.specs.Table.{columns, split, syndromeOf}
 use Rattle.hsiao.specs.Outcome.{wordIn, countIn}
 use Rattle.hsiao.specs.Widths.Code.{isWidth, checksOf, columnsOf}

@@ -5,10 +5,10 @@ use mathlib.Core.List.{List}
 use Prim.Native.Nat.{ℕ}
 use lib.Dec.{eqb}
 use Rattle.coding.specs.Columns.{splitSyndrome}
-use Rattle.words.specs.Refusal.{unless, ifDone}
-use Rattle.words.specs.declared.answer.Refusal.the-variants.{NoCodeword}
-use Rattle.words.specs.declared.answer.Answer.{Answer}
-use Rattle.words.specs.declared.answer.Answer.the-variants.{Done}
+use Rattle.answers.specs.Refusal.{unless, ifDone}
+use Rattle.answers.specs.declared.answer.Refusal.the-variants.{NoCodeword}
+use Rattle.answers.specs.declared.answer.Answer.{Answer}
+use Rattle.answers.specs.declared.answer.Answer.the-variants.{Done}
 use Rattle.hsiao.specs.Table.{columns, split, IsCodeword}
 use Rattle.hsiao.specs.declared.word.Word.{Word}
 use Rattle.hsiao.specs.declared.read_back.ReadBack.{ReadBack}

@@ -1,8 +1,8 @@
 // Message: the data bits of a codeword.
 use crate::syndromes::syndrome;
 use crate::word::Word;
-use words::answer::Answer;
-use words::answer::Refusal;
+use answers::Answer;
+use answers::Refusal;
 ghost use Rattle.hsiao.specs.MessageRead.{MessageRead};
 
 // A word that is no codeword is refused, with 0 as its data.

@@ -11,11 +11,11 @@ use borrow.Author.Tests.{leb-true, le-leb, lt-leb, eqb-true, eq-eqb, ne-eqb, ltb
 use Rattle.coding.specs.Matrix.{Inside}
 use Rattle.coding.proofs.LoopLaws.{Gathered, gathered-each, gathered-joint}
 use Rattle.words.specs.Limits.{maxDepth}
-use Rattle.words.specs.Refusal.{unless, Between}
+use Rattle.answers.specs.Refusal.{unless, Between}
 use Rattle.words.specs.Shape.{firstOutside}
-use Rattle.words.specs.declared.answer.Refusal.the-variants.{NoDepth, NoBits}
-use Rattle.words.specs.declared.answer.Answer.the-variants.{Done, Refused}
-use Rattle.words.proofs.AnswerLaws.{unless-done, andThen-done, goes, Numbered, unless-numbered, andThen-numbered}
+use Rattle.answers.specs.declared.answer.Refusal.the-variants.{NoDepth, NoBits}
+use Rattle.answers.specs.declared.answer.Answer.the-variants.{Done, Refused}
+use Rattle.answers.proofs.AnswerLaws.{unless-done, andThen-done, goes, Numbered, unless-numbered, andThen-numbered}
 use Rattle.words.proofs.ShapeLaws.{outside-none, inside-none}
 use Rattle.interleaving.specs.Causes.{onlyBits, lengthAnswer, bitsAnswer}
 

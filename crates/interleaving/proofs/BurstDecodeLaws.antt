@@ -12,15 +12,17 @@ use Rattle.coding.specs.Interleaving.{sortedWords, BurstRule}
 use Rattle.coding.proofs.MatrixLaws.{codeword-lt}
 use Rattle.coding.proofs.InterleavingLaws.{sorted-at, sorted-long, sorted-inside, burst-rule}
 use Rattle.words.specs.Limits.{maxPlaces}
-use Rattle.words.specs.Refusal.{numberOf, andThen, Between, EveryRow}
+use Rattle.answers.specs.Refusal.{numberOf, andThen, Between}
+use Rattle.words.specs.Widest.{EveryRow}
 use Rattle.words.specs.Shape.{shapeAnswer}
 use Rattle.words.specs.Accepted.{matrixAnswer}
-use Rattle.words.specs.declared.answer.Refusal.{Refusal}
-use Rattle.words.specs.declared.answer.Refusal.the-variants.{OutOfRange}
-use Rattle.words.specs.declared.answer.Answer.{Answer}
-use Rattle.words.specs.declared.answer.Answer.the-variants.{Done, Refused}
-use Rattle.words.proofs.AnswerLaws.{refused-done, stays, goes, Numbered, andThen-numbered, numbered-as}
-use Rattle.words.proofs.AnswerLaws.{never-done, never-of, every-row-of, rows-first}
+use Rattle.answers.specs.declared.answer.Refusal.{Refusal}
+use Rattle.answers.specs.declared.answer.Refusal.the-variants.{OutOfRange}
+use Rattle.answers.specs.declared.answer.Answer.{Answer}
+use Rattle.answers.specs.declared.answer.Answer.the-variants.{Done, Refused}
+use Rattle.answers.proofs.AnswerLaws.{refused-done, stays, goes, Numbered, andThen-numbered, numbered-as}
+use Rattle.answers.proofs.AnswerLaws.{never-done, never-of}
+use Rattle.words.proofs.ShapeLaws.{every-row-of, rows-first}
 use Rattle.words.proofs.AcceptedLaws.{shape-refused}
 use Rattle.outcomes.specs.Outcome.{wordOf}
 use Rattle.outcomes.specs.declared.ending.Reading.{Reading}

@@ -10,14 +10,16 @@ use Rattle.coding.specs.Matrix.{Inside}
 use Rattle.coding.specs.Interleaving.{sentBit, interleaved, sortedWord, sortedWords}
 use Rattle.coding.proofs.InterleavingLaws.{sent-bit, sorted-sent, sent-sorted, sorted-at, sorted-long, sorted-lt, sorted-bit}
 use Rattle.words.specs.Limits.{width}
-use Rattle.words.specs.Refusal.{andThen, Between, Never, EveryRow, EveryWord}
+use Rattle.answers.specs.Refusal.{andThen, Between, Never}
+use Rattle.words.specs.Widest.{EveryRow, EveryWord}
 use Rattle.words.specs.Accepted.{matrixAnswer}
 use Rattle.words.specs.Lists.{insideAnswer, roomAnswer}
-use Rattle.words.specs.declared.answer.Refusal.{Refusal}
-use Rattle.words.specs.declared.answer.Refusal.the-variants.{WordOutside, ShortOutput}
-use Rattle.words.specs.declared.answer.Answer.{Answer}
-use Rattle.words.specs.declared.answer.Answer.the-variants.{Done, Refused}
-use Rattle.words.proofs.AnswerLaws.{refused-done, unless-numbered, never-done, never-of, then-never, every-row-of, rows-first, kept, filled}
+use Rattle.answers.specs.declared.answer.Refusal.{Refusal}
+use Rattle.answers.specs.declared.answer.Refusal.the-variants.{WordOutside, ShortOutput}
+use Rattle.answers.specs.declared.answer.Answer.{Answer}
+use Rattle.answers.specs.declared.answer.Answer.the-variants.{Done, Refused}
+use Rattle.answers.proofs.AnswerLaws.{refused-done, unless-numbered, never-done, never-of, then-never, kept, filled}
+use Rattle.words.proofs.ShapeLaws.{every-row-of, rows-first}
 use Rattle.words.proofs.ShapeLaws.{every-passes}
 use Rattle.words.proofs.AcceptedLaws.{matrix-numbered}
 use Rattle.words.proofs.WordListLaws.{inside-in}

@@ -6,13 +6,13 @@ use lib.Dec.{eqb, leb}
 use lib.ListN.{length}
 use Rattle.coding.specs.Interleaving.{sortedWords}
 use Rattle.words.specs.Limits.{maxDepth}
-use Rattle.words.specs.Refusal.{unless, andThen}
+use Rattle.answers.specs.Refusal.{unless, andThen}
 use Rattle.words.specs.Shape.{firstOutside}
 use Rattle.words.specs.Accepted.{matrixAnswer}
 use Rattle.words.specs.Lists.{insideAnswer, roomAnswer}
-use Rattle.words.specs.declared.answer.Refusal.the-variants.{NoDepth, NoBits}
-use Rattle.words.specs.declared.answer.Answer.{Answer}
-use Rattle.words.specs.declared.answer.Answer.the-variants.{Done}
+use Rattle.answers.specs.declared.answer.Refusal.the-variants.{NoDepth, NoBits}
+use Rattle.answers.specs.declared.answer.Answer.{Answer}
+use Rattle.answers.specs.declared.answer.Answer.the-variants.{Done}
 use Rattle.outcomes.specs.declared.ending.Reading.the-variants.{Within}
 use Rattle.decoder.specs.Causes.{codeAnswer, listsAnswer}
 

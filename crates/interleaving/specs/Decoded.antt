@@ -6,10 +6,11 @@ use Prim.Native.Nat.{ℕ}
 use lib.ListN.{length}
 use Rattle.coding.specs.Matrix.{Codeword}
 use Rattle.coding.specs.Interleaving.{sortedWords, BurstRule}
-use Rattle.words.specs.Refusal.{numberOf, Between, EveryRow}
-use Rattle.words.specs.declared.answer.Refusal.{Refusal}
-use Rattle.words.specs.declared.answer.Answer.{Answer}
-use Rattle.words.specs.declared.answer.Answer.the-variants.{Done, Refused}
+use Rattle.answers.specs.Refusal.{numberOf, Between}
+use Rattle.words.specs.Widest.{EveryRow}
+use Rattle.answers.specs.declared.answer.Refusal.{Refusal}
+use Rattle.answers.specs.declared.answer.Answer.{Answer}
+use Rattle.answers.specs.declared.answer.Answer.the-variants.{Done, Refused}
 use Rattle.outcomes.specs.declared.ending.Reading.the-variants.{Within}
 use Rattle.decoder.specs.Decoded.{Batch, Lent, Decoded}
 use Rattle.interleaving.specs.Causes.{interleavedAnswer}

@@ -5,9 +5,10 @@ use Prim.Native.Nat.{ℕ, _+_, _*_, _^_, _<_}
 use lib.ListN.{length, getD}
 use Rattle.coding.specs.Word.{bit}
 use Rattle.coding.specs.Interleaving.{interleaved, sortedWords}
-use Rattle.words.specs.Refusal.{EveryRow, onDone}
-use Rattle.words.specs.declared.answer.Answer.{Answer}
-use Rattle.words.specs.declared.answer.Answer.the-variants.{Done}
+use Rattle.answers.specs.Refusal.{onDone}
+use Rattle.words.specs.Widest.{EveryRow}
+use Rattle.answers.specs.declared.answer.Answer.{Answer}
+use Rattle.answers.specs.declared.answer.Answer.the-variants.{Done}
 use Rattle.interleaving.specs.Causes.{deinterleaveAnswer}
 
 -- slot i holds word i of the L words, every later slot and on a refusal every slot is as it was: a word of n places whose place j is bit

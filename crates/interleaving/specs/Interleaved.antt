@@ -5,9 +5,10 @@ use Prim.Native.Nat.{ℕ, _+_, _*_, _<_}
 use lib.ListN.{length, getD}
 use Rattle.coding.specs.Word.{bit}
 use Rattle.coding.specs.Interleaving.{interleaved, sortedWords}
-use Rattle.words.specs.Refusal.{EveryWord, ifDone}
-use Rattle.words.specs.declared.answer.Answer.{Answer}
-use Rattle.words.specs.declared.answer.Answer.the-variants.{Done}
+use Rattle.answers.specs.Refusal.{ifDone}
+use Rattle.words.specs.Widest.{EveryWord}
+use Rattle.answers.specs.declared.answer.Answer.{Answer}
+use Rattle.answers.specs.declared.answer.Answer.the-variants.{Done}
 use Rattle.interleaving.specs.Causes.{interleaveAnswer}
 
 -- the list is the interleaved bits of the L words, in every slot, and on a refusal as it was: place j of word i travels as bit number

@@ -1,6 +1,6 @@
 // Causes 16 and 17: the depth and the list of bits.
-use words::answer::Answer;
-use words::answer::Refusal;
+use answers::Answer;
+use answers::Refusal;
 use words::limits::MAX_DEPTH;
 ghost use mathlib.Core.Path.{_≡_};
 ghost use Rattle.interleaving.specs.Causes.{onlyBits, lengthAnswer, bitsAnswer};

@@ -13,12 +13,14 @@ use Rattle.coding.specs.Check.{checks}
 use Rattle.coding.specs.Leader.{leaderOf}
 use Rattle.coding.proofs.ListLaws.{getD-tabulate}
 use Rattle.words.specs.Limits.{maxChecks, width}
-use Rattle.words.specs.Refusal.{Between, Never, EveryRow}
+use Rattle.answers.specs.Refusal.{Between, Never}
+use Rattle.words.specs.Widest.{EveryRow}
 use Rattle.words.specs.Accepted.{matrixAnswer, Accepted}
-use Rattle.words.specs.declared.answer.Refusal.{Refusal}
-use Rattle.words.specs.declared.answer.Refusal.the-variants.{ShortWork}
-use Rattle.words.specs.declared.answer.Answer.the-variants.{Done, Refused}
-use Rattle.words.proofs.AnswerLaws.{refused-done, never-done, rows-first, unless-numbered, never-of, kept, filled}
+use Rattle.answers.specs.declared.answer.Refusal.{Refusal}
+use Rattle.answers.specs.declared.answer.Refusal.the-variants.{ShortWork}
+use Rattle.answers.specs.declared.answer.Answer.the-variants.{Done, Refused}
+use Rattle.answers.proofs.AnswerLaws.{refused-done, never-done, unless-numbered, never-of, kept, filled}
+use Rattle.words.proofs.ShapeLaws.{rows-first}
 use Rattle.words.proofs.AcceptedLaws.{in-accepted}
 use Rattle.words.proofs.CodeLaws.{leader-at, light, every-leader}
 use Rattle.parity.specs.ParityChecks.{ParityChecksOf}

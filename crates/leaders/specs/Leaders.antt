@@ -11,11 +11,12 @@ use Rattle.coding.specs.Leader.{syndromeOf, IsLeader, EveryLeader, leaderOf}
 use Rattle.coding.specs.Order.{order, blanks}
 use Rattle.coding.specs.Tries.{tried, LastLeader}
 use Rattle.words.specs.Limits.{maxChecks}
-use Rattle.words.specs.Refusal.{unless, andThen, EveryRow, onDone, ifDone}
-use Rattle.words.specs.declared.answer.Refusal.{Refusal}
-use Rattle.words.specs.declared.answer.Refusal.the-variants.{ShortWork}
-use Rattle.words.specs.declared.answer.Answer.{Answer}
-use Rattle.words.specs.declared.answer.Answer.the-variants.{Done, Refused}
+use Rattle.answers.specs.Refusal.{unless, andThen, onDone, ifDone}
+use Rattle.words.specs.Widest.{EveryRow}
+use Rattle.answers.specs.declared.answer.Refusal.{Refusal}
+use Rattle.answers.specs.declared.answer.Refusal.the-variants.{ShortWork}
+use Rattle.answers.specs.declared.answer.Answer.{Answer}
+use Rattle.answers.specs.declared.answer.Answer.the-variants.{Done, Refused}
 use Rattle.words.specs.Accepted.{matrixAnswer, Accepted}
 use Rattle.parity.specs.ParityChecks.{ParityChecksOf}
 use Rattle.leaders.specs.declared.leaders.Leaders.{Leaders}

@@ -13,8 +13,8 @@ use Rattle.coding.specs.Reduce.{reduce, rowsOf, reducedRows}
 use Rattle.words.specs.Limits.{maxRows}
 use Rattle.words.specs.Shape.{shapeAnswer}
 use Rattle.words.specs.Accepted.{matrixAnswer, Accepted}
-use Rattle.words.specs.declared.answer.Refusal.the-variants.{Dependent}
-use Rattle.words.specs.declared.answer.Answer.the-variants.{Done, Refused}
+use Rattle.answers.specs.declared.answer.Refusal.the-variants.{Dependent}
+use Rattle.answers.specs.declared.answer.Answer.the-variants.{Done, Refused}
 use Rattle.words.proofs.AcceptedLaws.{ends-dependent, ends-done, accepted-in}
 use Rattle.words.proofs.CodeLaws.{rows-are}
 use Rattle.linear.specs.Reduction.{ReductionOf}

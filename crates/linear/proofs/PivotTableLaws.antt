@@ -17,11 +17,12 @@ use Rattle.coding.proofs.UniqueLaws.{reducedForm-unique}
 use Rattle.coding.proofs.WidthLaws.{inside-wide, reduce-wide, rows-zeros}
 use Rattle.coding.proofs.TraceLaws.{traced-at, trace-message}
 use Rattle.words.specs.Limits.{maxRows}
-use Rattle.words.specs.Refusal.{EveryRow, ifDone}
-use Rattle.words.specs.declared.answer.Refusal.{Refusal}
-use Rattle.words.specs.declared.answer.Answer.{Answer}
-use Rattle.words.specs.declared.answer.Answer.the-variants.{Done, Refused}
-use Rattle.words.proofs.AnswerLaws.{refused-done, never-done}
+use Rattle.answers.specs.Refusal.{ifDone}
+use Rattle.words.specs.Widest.{EveryRow}
+use Rattle.answers.specs.declared.answer.Refusal.{Refusal}
+use Rattle.answers.specs.declared.answer.Answer.{Answer}
+use Rattle.answers.specs.declared.answer.Answer.the-variants.{Done, Refused}
+use Rattle.answers.proofs.AnswerLaws.{refused-done, never-done}
 use Rattle.words.specs.Accepted.{matrixAnswer, Accepted}
 use Rattle.linear.specs.ReducedRows.{ReducedRowsOf}
 use Rattle.linear.specs.Reduction.{MessagesByPivot, ReductionOf}

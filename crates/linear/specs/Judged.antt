@@ -4,11 +4,11 @@ use mathlib.Core.List.{List}
 use Prim.Native.Nat.{ℕ}
 use lib.ListN.{take}
 use Rattle.coding.specs.Matrix.{Independent, Depends}
-use Rattle.words.specs.Refusal.{EveryRow}
+use Rattle.words.specs.Widest.{EveryRow}
 use Rattle.words.specs.Accepted.{matrixAnswer, Accepted}
-use Rattle.words.specs.declared.answer.Refusal.the-variants.{Dependent}
-use Rattle.words.specs.declared.answer.Answer.{Answer}
-use Rattle.words.specs.declared.answer.Answer.the-variants.{Done, Refused}
+use Rattle.answers.specs.declared.answer.Refusal.the-variants.{Dependent}
+use Rattle.answers.specs.declared.answer.Answer.{Answer}
+use Rattle.answers.specs.declared.answer.Answer.the-variants.{Done, Refused}
 
 -- the answer to a matrix: it is accepted exactly when it meets those demands, the row found by cause 4 is a sum of earlier rows, which
 -- are independent, and at 32 places every number is a word, so that cause 3 never arises (02, No. 7)

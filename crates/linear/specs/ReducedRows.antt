@@ -7,9 +7,10 @@ use Rattle.coding.specs.Lists.{zeros, padded}
 use Rattle.coding.specs.Reduced.{ReducedForm}
 use Rattle.coding.specs.Reduce.{reducedRows, pivots}
 use Rattle.words.specs.Limits.{maxRows}
-use Rattle.words.specs.Refusal.{EveryRow, ifDone}
+use Rattle.answers.specs.Refusal.{ifDone}
+use Rattle.words.specs.Widest.{EveryRow}
 use Rattle.words.specs.Accepted.{matrixAnswer}
-use Rattle.words.specs.declared.answer.Answer.the-variants.{Done}
+use Rattle.answers.specs.declared.answer.Answer.the-variants.{Done}
 use Rattle.linear.specs.declared.reduction.ReducedRows.{ReducedRows}
 
 -- causes 1 to 4, at 32 places never 3; the k reduced rows and 0 after them, or 0 at every entry; and for an accepted matrix these rows are

@@ -7,9 +7,9 @@ use Rattle.coding.specs.Matrix.{messageOf}
 use Rattle.coding.specs.Reduce.{reduce, reducedRows, pivots}
 use Rattle.coding.specs.Reduced.{ByPivot, Traced}
 use Rattle.words.specs.Limits.{width}
-use Rattle.words.specs.Refusal.{ifDone}
-use Rattle.words.specs.declared.answer.Answer.{Answer}
-use Rattle.words.specs.declared.answer.Answer.the-variants.{Done}
+use Rattle.answers.specs.Refusal.{ifDone}
+use Rattle.answers.specs.declared.answer.Answer.{Answer}
+use Rattle.answers.specs.declared.answer.Answer.the-variants.{Done}
 use Rattle.linear.specs.ReducedRows.{ReducedRowsOf}
 use Rattle.linear.specs.declared.reduction.Reduction.{Reduction}
 

@@ -1,6 +1,6 @@
 // Causes 1 to 4: which matrices are accepted.
 use crate::reduction::reduce;
-use words::answer::Answer;
+use answers::Answer;
 ghost use Rattle.linear.specs.Judged.{Judged};
 
 // Causes 1 to 4: the first that refuses the matrix, or Done where it is accepted.

@@ -1,6 +1,6 @@
 // Part 1: the reduced row echelon form.
-use words::answer::Answer;
-use words::answer::Refusal;
+use answers::Answer;
+use answers::Refusal;
 use words::limits::MAX_ROWS;
 use words::limits::WIDTH;
 use words::shape::shape_cause;

@@ -11,8 +11,8 @@ use Rattle.coding.specs.Check.{check, checks, frees}
 use Rattle.words.specs.Limits.{maxChecks}
 use Rattle.words.specs.Accepted.{Accepted}
 use Rattle.words.proofs.CodeLaws.{frees-are}
-use Rattle.words.specs.declared.answer.Answer.{Answer}
-use Rattle.words.specs.declared.answer.Answer.the-variants.{Done}
+use Rattle.answers.specs.declared.answer.Answer.{Answer}
+use Rattle.answers.specs.declared.answer.Answer.the-variants.{Done}
 use Rattle.parity.specs.ParityChecks.{ParityChecksOf}
 use Rattle.parity.specs.declared.check.ParityChecks.{ParityChecks}
 

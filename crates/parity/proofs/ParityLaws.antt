@@ -13,8 +13,9 @@ use Rattle.coding.proofs.ListLaws.{map-same}
 use Rattle.coding.proofs.CheckRowLaws.{free-places, check-rows}
 use Rattle.coding.proofs.WidthLaws.{column-zeros}
 use Rattle.words.specs.Limits.{maxChecks}
-use Rattle.words.specs.Refusal.{EveryRow, ifDone}
-use Rattle.words.specs.declared.answer.Answer.the-variants.{Done}
+use Rattle.answers.specs.Refusal.{ifDone}
+use Rattle.words.specs.Widest.{EveryRow}
+use Rattle.answers.specs.declared.answer.Answer.the-variants.{Done}
 use Rattle.words.specs.Accepted.{matrixAnswer, Accepted}
 use Rattle.words.proofs.AcceptedLaws.{accepted-in}
 use Rattle.words.proofs.CodeLaws.{codeword-syndrome, frees-are}

@@ -9,11 +9,12 @@ use Rattle.coding.specs.Matrix.{Codeword}
 use Rattle.coding.specs.Reduce.{reducedRows, pivots}
 use Rattle.coding.specs.Check.{checks, frees, FreePlaces, CheckRow, syndrome}
 use Rattle.words.specs.Limits.{maxChecks}
-use Rattle.words.specs.Refusal.{EveryRow, ifDone}
+use Rattle.answers.specs.Refusal.{ifDone}
+use Rattle.words.specs.Widest.{EveryRow}
 use Rattle.words.specs.Accepted.{matrixAnswer}
 use Rattle.linear.specs.ReducedRows.{ReducedRowsOf}
 use Rattle.linear.specs.Reduction.{MessagesByPivot}
-use Rattle.words.specs.declared.answer.Answer.the-variants.{Done}
+use Rattle.answers.specs.declared.answer.Answer.the-variants.{Done}
 use Rattle.parity.specs.declared.check.ParityChecks.{ParityChecks}
 use Rattle.parity.specs.declared.check.Code.{Code}
 

@@ -1,7 +1,7 @@
 -- What a call tells, from the answer of the operation below it. Assumes nothing.
 use mathlib.Core.Path.{_≡_}
 use Prim.Native.Nat.{ℕ}
-use Rattle.words.specs.declared.answer.Answer.{Answer}
+use Rattle.answers.specs.declared.answer.Answer.{Answer}
 use Rattle.relaymarten.specs.Told.{numberIn, valueIn, Told}
 
 -- a is the answer, and x what the definition gives

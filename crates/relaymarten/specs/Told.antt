@@ -1,9 +1,9 @@
 -- How a call tells its answer to a program in another language: 0 or the number of the cause, and the value beside it.
 use mathlib.Core.Path.{_≡_}
 use Prim.Native.Nat.{ℕ}
-use Rattle.words.specs.Refusal.{numberOf, valueOf}
-use Rattle.words.specs.declared.answer.Answer.{Answer}
-use Rattle.words.specs.declared.answer.Answer.the-variants.{Done, Refused}
+use Rattle.answers.specs.Refusal.{numberOf, valueOf}
+use Rattle.answers.specs.declared.answer.Answer.{Answer}
+use Rattle.answers.specs.declared.answer.Answer.the-variants.{Done, Refused}
 
 abbrev pub numberIn : Answer → ℕ
 numberIn Done = 0

@@ -2,7 +2,7 @@
 use crate::told::tell;
 use hsiao::Word;
 use hsiao::widths;
-ghost use Rattle.words.specs.declared.answer.Answer.the-variants.{Done};
+ghost use Rattle.answers.specs.declared.answer.Answer.the-variants.{Done};
 ghost use Rattle.hsiao.specs.Widths.Causes.{dataAnswer, wordAnswer};
 ghost use Rattle.hsiao.specs.Widths.Encoded.{Encoded};
 ghost use Rattle.hsiao.specs.Widths.Decoded.{Decoded};

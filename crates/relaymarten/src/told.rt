@@ -1,7 +1,7 @@
 // An answer as C receives it: a number, and a value through a reference.
-use words::answer::Answer;
-use words::answer::number;
-use words::answer::value;
+use answers::Answer;
+use answers::number;
+use answers::value;
 ghost use mathlib.Core.Path.{_≡_};
 ghost use Rattle.relaymarten.specs.Told.{numberIn, valueIn};
 

@@ -13,11 +13,11 @@ use Rattle.coding.specs.Word.{weight}
 use Rattle.coding.specs.Weight.{dmin}
 use Rattle.coding.specs.Leader.{syndromeOf, leaderOf}
 use Rattle.words.specs.Limits.{maxWords, maxChecks}
-use Rattle.words.specs.Refusal.{numberOf, valueOf, ifDone}
+use Rattle.answers.specs.Refusal.{numberOf, valueOf, ifDone}
 use Rattle.words.specs.Accepted.{Accepted}
-use Rattle.words.specs.declared.answer.Refusal.{Refusal}
-use Rattle.words.specs.declared.answer.Answer.{Answer}
-use Rattle.words.specs.declared.answer.Answer.the-variants.{Done, Refused}
+use Rattle.answers.specs.declared.answer.Refusal.{Refusal}
+use Rattle.answers.specs.declared.answer.Answer.{Answer}
+use Rattle.answers.specs.declared.answer.Answer.the-variants.{Done, Refused}
 use Rattle.words.proofs.AcceptedLaws.{accepted-in}
 use Rattle.words.proofs.CodeLaws.{distance-is, leader-weight}
 use Rattle.outcomes.specs.Outcome.{takes, outcomeOf, decodedAs, wordOf, countOf}

@@ -9,8 +9,8 @@ use Rattle.coding.specs.Word.{bit}
 use Rattle.coding.specs.Weight.{dmin}
 use Rattle.words.specs.Limits.{maxWords, maxChecks}
 use Rattle.words.specs.Accepted.{Accepted}
-use Rattle.words.specs.declared.answer.Answer.{Answer}
-use Rattle.words.specs.declared.answer.Answer.the-variants.{Done, Refused}
+use Rattle.answers.specs.declared.answer.Answer.{Answer}
+use Rattle.answers.specs.declared.answer.Answer.the-variants.{Done, Refused}
 use Rattle.words.proofs.AcceptedLaws.{accepted-in}
 use Rattle.outcomes.specs.Outcome.{wordIn, decodedAs}
 use Rattle.outcomes.specs.declared.ending.Reading.{Reading}

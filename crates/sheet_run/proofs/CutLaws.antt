@@ -10,13 +10,13 @@ use borrow.Author.Tests.{ne-eqb, lt-leb}
 use lib.ListN.{length, take}
 use lib.Seq.{take-all, length-take-le}
 use Rattle.words.specs.Limits.{inRange, maxRows, maxWords, maxChecks}
-use Rattle.words.specs.Refusal.{unless, andThen}
+use Rattle.answers.specs.Refusal.{unless, andThen}
 use Rattle.words.specs.Shape.{shapeAnswer}
 use Rattle.words.specs.Lists.{listAnswer}
-use Rattle.words.specs.declared.answer.Refusal.{Refusal}
-use Rattle.words.specs.declared.answer.Refusal.the-variants.{OutOfRange, RowCount, TooManyWords}
-use Rattle.words.specs.declared.answer.Answer.{Answer}
-use Rattle.words.specs.declared.answer.Answer.the-variants.{Done, Refused}
+use Rattle.answers.specs.declared.answer.Refusal.{Refusal}
+use Rattle.answers.specs.declared.answer.Refusal.the-variants.{OutOfRange, RowCount, TooManyWords}
+use Rattle.answers.specs.declared.answer.Answer.{Answer}
+use Rattle.answers.specs.declared.answer.Answer.the-variants.{Done, Refused}
 use Rattle.words.proofs.ShapeLaws.{range-in}
 use Rattle.words.proofs.AcceptedLaws.{shape-refused}
 use Rattle.decoder.specs.Causes.{codeAnswer, listsAnswer, decodeAnswer}

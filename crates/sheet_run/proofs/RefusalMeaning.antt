@@ -6,11 +6,11 @@ use native.Mathlib.Omega.{arith}
 use lib.ListN.{length, getD}
 use lib.Seq.{getD-take}
 use Rattle.words.specs.Limits.{maxWords, maxChecks}
-use Rattle.words.specs.Refusal.{numberOf, valueOf, Between, Never}
-use Rattle.words.specs.declared.answer.Refusal.{Refusal}
-use Rattle.words.specs.declared.answer.Answer.{Answer}
-use Rattle.words.specs.declared.answer.Answer.the-variants.{Done, Refused}
-use Rattle.words.proofs.AnswerLaws.{never}
+use Rattle.answers.specs.Refusal.{numberOf, valueOf, Between, Never}
+use Rattle.answers.specs.declared.answer.Refusal.{Refusal}
+use Rattle.answers.specs.declared.answer.Answer.{Answer}
+use Rattle.answers.specs.declared.answer.Answer.the-variants.{Done, Refused}
+use Rattle.answers.proofs.AnswerLaws.{never}
 use Rattle.outcomes.specs.declared.ending.Reading.{Reading}
 use Rattle.decoder.specs.Causes.{decodeAnswer}
 use Rattle.decoder.proofs.CauseLaws.{refused-number, decode-passes}

@@ -5,9 +5,9 @@ use Rattle.coding.specs.Lists.{tabulate}
 use Rattle.coding.specs.Word.{bit}
 use Rattle.coding.specs.Weight.{dmin}
 use Rattle.words.specs.Limits.{maxWords, maxChecks}
-use Rattle.words.specs.Refusal.{numberOf, valueOf}
-use Rattle.words.specs.declared.answer.Answer.{Answer}
-use Rattle.words.specs.declared.answer.Answer.the-variants.{Done, Refused}
+use Rattle.answers.specs.Refusal.{numberOf, valueOf}
+use Rattle.answers.specs.declared.answer.Answer.{Answer}
+use Rattle.answers.specs.declared.answer.Answer.the-variants.{Done, Refused}
 use Rattle.outcomes.specs.Outcome.{wordIn, decodedAs}
 use Rattle.decoder.specs.Causes.{decodeAnswer}
 use Rattle.outcomes.specs.declared.ending.Reading.{Reading}

@@ -9,12 +9,12 @@ use sheet::SheetAnswer;
 use sheet::number;
 use sheet::read;
 use sheet::value;
-use words::answer::Answer;
-use words::answer::Refusal;
+use answers::Answer;
+use answers::Refusal;
 use words::limits::MAX_WORDS;
 ghost use Prim.Native.Nat.{_+_, _*_, _≤_};
 ghost use lib.ListN.{length};
-ghost use Rattle.words.specs.Refusal.{numberOf, valueOf};
+ghost use Rattle.answers.specs.Refusal.{numberOf, valueOf};
 ghost use Rattle.sheet_run.specs.Inner.Appended.{Appends};
 ghost use Rattle.sheet_run.specs.Output.{refusedLine, batchOutput, printed};
 ghost use Rattle.sheet_run.specs.Run.{maxOutput, Ran};
@@ -35,7 +35,7 @@ fn put_cause(out: &mut [u8], c: Refusal) -> usize
     requires { ⌜ maxOutput ≤ length (now out) ⌝ }
     ensures { λ r. ⌜ Appends (now (out .entry)) 0 (refusedLine (numberOf c) (valueOf c)) (now (out .exit)) r ⌝ }
 {
-    put_refusal(out, words::answer::number(c), words::answer::value(c))
+    put_refusal(out, answers::number(c), answers::value(c))
 }
 
 // A batch is decoded and printed.

@@ -10,7 +10,7 @@ use Rattle.coding.specs.Order.{order}
 use Rattle.coding.specs.Tries.{LastLeader}
 use Rattle.words.specs.Shape.{shapeAnswer}
 use Rattle.words.specs.Accepted.{matrixAnswer}
-use Rattle.words.specs.declared.answer.Answer.the-variants.{Done}
+use Rattle.answers.specs.declared.answer.Answer.the-variants.{Done}
 use Rattle.words.proofs.AcceptedLaws.{accepted-in}
 use Rattle.leaders.specs.Leaders.{leadersTried}
 use Rattle.leaders.proofs.BuiltLaws.{place-is}

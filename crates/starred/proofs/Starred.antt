@@ -14,8 +14,8 @@ use Rattle.coding.specs.Radius.{RadiusRules}
 use Rattle.coding.specs.Leader.{leaderOf}
 use Rattle.coding.proofs.WeightLaws.{weight-in}
 use Rattle.words.specs.Shape.{shapeAnswer}
-use Rattle.words.specs.declared.answer.Refusal.the-variants.{Dependent}
-use Rattle.words.specs.declared.answer.Answer.the-variants.{Done, Refused}
+use Rattle.answers.specs.declared.answer.Refusal.the-variants.{Dependent}
+use Rattle.answers.specs.declared.answer.Answer.the-variants.{Done, Refused}
 use Rattle.words.specs.Accepted.{matrixAnswer}
 use Rattle.outcomes.specs.Outcome.{wordIn, countIn, decodedAs}
 use Rattle.outcomes.specs.declared.ending.Reading.the-variants.{Nearest}

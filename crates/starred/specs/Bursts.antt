@@ -8,8 +8,8 @@ use Rattle.coding.specs.Lists.{tabulate, zeros}
 use Rattle.coding.specs.Word.{bit}
 use Rattle.coding.specs.Matrix.{Codeword}
 use Rattle.coding.specs.Interleaving.{interleaved, sortedWords, SentWithBurst, BurstRule}
-use Rattle.words.specs.declared.answer.Refusal.the-variants.{RadiusTooLarge, WordOutside, ShortOutput, ShortWork, NoDepth, NoBits}
-use Rattle.words.specs.declared.answer.Answer.the-variants.{Done, Refused}
+use Rattle.answers.specs.declared.answer.Refusal.the-variants.{RadiusTooLarge, WordOutside, ShortOutput, ShortWork, NoDepth, NoBits}
+use Rattle.answers.specs.declared.answer.Answer.the-variants.{Done, Refused}
 use Rattle.outcomes.specs.Outcome.{wordOf, countOf}
 use Rattle.outcomes.specs.declared.ending.Reading.the-variants.{Within}
 use Rattle.interleaving.specs.Causes.{interleaveAnswer, deinterleaveAnswer, interleavedAnswer}

@@ -3,9 +3,9 @@ use mathlib.Core.Path.{_≡_}
 use mathlib.Core.Logic.{_≢_}
 use mathlib.Core.List.{List, [], _∷_, map}
 use Prim.Native.Nat.{ℕ}
-use Rattle.words.specs.Refusal.{numberOf, valueOf}
-use Rattle.words.specs.declared.answer.Refusal.{Refusal}
-use Rattle.words.specs.declared.answer.Refusal.the-variants.{OutOfRange, RowCount, RowOutside, Dependent, RadiusTooLarge, TooManyWords, WordOutside, ShortOutput, ShortWork, NoCodeword, NoWidth, BeyondWidth, NoDepth, NoBits}
+use Rattle.answers.specs.Refusal.{numberOf, valueOf}
+use Rattle.answers.specs.declared.answer.Refusal.{Refusal}
+use Rattle.answers.specs.declared.answer.Refusal.the-variants.{OutOfRange, RowCount, RowOutside, Dependent, RadiusTooLarge, TooManyWords, WordOutside, ShortOutput, ShortWork, NoCodeword, NoWidth, BeyondWidth, NoDepth, NoBits}
 use Rattle.sheet.specs.Fault as fault
 use Rattle.sheet.specs.declared.answer.Fault.{Fault}
 use Rattle.sheet.specs.declared.answer.Fault.the-variants.{Layout, Tag}

@@ -7,9 +7,9 @@ use lib.Dec.{eqb}
 use lib.ListN.{length, replicate}
 use Rattle.coding.specs.Lists.{tabulate}
 use Rattle.coding.specs.Matrix.{encode}
-use Rattle.words.specs.Refusal.{numberOf, valueOf}
-use Rattle.words.specs.declared.answer.Refusal.the-variants.{NoCodeword, NoWidth, BeyondWidth}
-use Rattle.words.specs.declared.answer.Answer.the-variants.{Done, Refused}
+use Rattle.answers.specs.Refusal.{numberOf, valueOf}
+use Rattle.answers.specs.declared.answer.Refusal.the-variants.{NoCodeword, NoWidth, BeyondWidth}
+use Rattle.answers.specs.declared.answer.Answer.the-variants.{Done, Refused}
 use Rattle.hsiao.specs.Table.{columns}
 use Rattle.hsiao.specs.Outcome.{countIn}
 use Rattle.hsiao.specs.Widths.Code.{checksOf, columnsOf}

@@ -9,8 +9,8 @@ use Rattle.coding.specs.Matrix.{encode}
 use Rattle.words.specs.Limits.{inRange}
 use Rattle.words.specs.Shape.{shapeAnswer}
 use Rattle.words.specs.Lists.{listAnswer}
-use Rattle.words.specs.declared.answer.Refusal.the-variants.{RowCount, RowOutside, WordOutside}
-use Rattle.words.specs.declared.answer.Answer.the-variants.{Done, Refused}
+use Rattle.answers.specs.declared.answer.Refusal.the-variants.{RowCount, RowOutside, WordOutside}
+use Rattle.answers.specs.declared.answer.Answer.the-variants.{Done, Refused}
 
 -- 1 + x^3 + x^5 + x^6 + x^8 + x^9 + x^10 times x^i, for each i below k: rows of the (31,21) BCH code
 abbrev pub rowsOf : ℕ → List ℕ

@@ -7,9 +7,9 @@ use Rattle.coding.specs.Matrix.{encode, messageOf}
 use Rattle.coding.specs.Reduce.{reducedRows}
 use Rattle.coding.specs.Weight.{dmin, weightCounts}
 use Rattle.coding.specs.Leader.{leaderOf}
-use Rattle.words.specs.Refusal.{numberOf, valueOf}
-use Rattle.words.specs.declared.answer.Refusal.the-variants.{Dependent}
-use Rattle.words.specs.declared.answer.Answer.the-variants.{Done, Refused}
+use Rattle.answers.specs.Refusal.{numberOf, valueOf}
+use Rattle.answers.specs.declared.answer.Refusal.the-variants.{Dependent}
+use Rattle.answers.specs.declared.answer.Answer.the-variants.{Done, Refused}
 use Rattle.words.specs.Accepted.{matrixAnswer}
 use Rattle.outcomes.specs.declared.ending.Reading.the-variants.{Nearest}
 use Rattle.outcomes.specs.declared.ending.Outcome.the-variants as ended

@@ -12,7 +12,7 @@ use parity::parity_checks;
 use parity::syndrome;
 use weights::describe;
 use weights::weights_of;
-use words::sums::row_sum;
+use sums::row_sum;
 
 fn reduced(n: u32, k: u32, rows: &[u32]) {
     let r = reduced_rows(n, k, rows);

@@ -2,9 +2,9 @@
 use crate::records::SLOTS;
 use crate::records::wide;
 use libc::STDOUT_FILENO;
-use words::answer::Answer;
-use words::answer::number;
-use words::answer::value;
+use answers::Answer;
+use answers::number;
+use answers::value;
 use words::limits::MAX_CHECKS;
 use words::limits::MAX_ROWS;
 use words::limits::WEIGHT_SLOTS;

@@ -24,10 +24,10 @@ use Rattle.coding.proofs.CountLaws.{count-none, count-some}
 use Rattle.coding.proofs.LightestCodewordLaws.{lightest-only, lightest-one-code}
 use Rattle.coding.proofs.DualLaws.{macwilliams-is}
 use Rattle.coding.proofs.WeightCountLaws.{weightCount-messages, weightCounts-total}
-use Rattle.words.specs.Refusal.{EveryRow}
-use Rattle.words.specs.declared.answer.Refusal.{Refusal}
-use Rattle.words.specs.declared.answer.Answer.the-variants.{Done, Refused}
-use Rattle.words.proofs.AnswerLaws.{refused-done, never-done}
+use Rattle.words.specs.Widest.{EveryRow}
+use Rattle.answers.specs.declared.answer.Refusal.{Refusal}
+use Rattle.answers.specs.declared.answer.Answer.the-variants.{Done, Refused}
+use Rattle.answers.proofs.AnswerLaws.{refused-done, never-done}
 use Rattle.words.specs.Accepted.{matrixAnswer, Accepted}
 use Rattle.words.proofs.AcceptedLaws.{in-accepted}
 use Rattle.words.proofs.CodeLaws.{frees-are, distance-is}

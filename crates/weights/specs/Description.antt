@@ -8,11 +8,12 @@ use Rattle.coding.specs.Check.{checks}
 use Rattle.coding.specs.Weight.{weightCounts, dmin, MinimumDistance, lightestCodeword, Lightest}
 use Rattle.coding.specs.Dual.{MacWilliams}
 use Rattle.words.specs.Limits.{weightSlots}
-use Rattle.words.specs.Refusal.{EveryRow, ifDone}
+use Rattle.answers.specs.Refusal.{ifDone}
+use Rattle.words.specs.Widest.{EveryRow}
 use Rattle.words.specs.Accepted.{matrixAnswer}
 use Rattle.linear.specs.ReducedRows.{ReducedRowsOf}
 use Rattle.parity.specs.ParityChecks.{ParityChecksOf}
-use Rattle.words.specs.declared.answer.Answer.the-variants.{Done}
+use Rattle.answers.specs.declared.answer.Answer.the-variants.{Done}
 use Rattle.weights.specs.declared.weights.Weights.{Weights}
 use Rattle.weights.specs.declared.description.Description.{Description}
 

@@ -3,9 +3,9 @@ use mathlib.Core.Path.{_≡_}
 use mathlib.Core.List.{List}
 use Prim.Native.Nat.{ℕ}
 use Rattle.coding.specs.Weight.{dmin, MinimumDistance}
-use Rattle.words.specs.Refusal.{ifDone}
+use Rattle.answers.specs.Refusal.{ifDone}
 use Rattle.parity.specs.ParityChecks.{ParityChecksOf}
-use Rattle.words.specs.declared.answer.Answer.the-variants.{Done}
+use Rattle.answers.specs.declared.answer.Answer.the-variants.{Done}
 use Rattle.weights.specs.declared.distance.Distance.{Distance}
 
 -- causes 1 to 4 and the check rows as the linear algebra states them; for an accepted matrix the minimum distance, which is the least weight

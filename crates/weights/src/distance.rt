@@ -4,7 +4,7 @@ use crate::search::least_sum;
 use crate::walk::NO_WEIGHT;
 use crate::walk::walk_all;
 use parity::code_of;
-use words::answer::Answer;
+use answers::Answer;
 use words::limits::MAX_CHECKS;
 ghost use mathlib.Core.Path.{_≡_};
 ghost use Rattle.coding.specs.Weight.{dmin};

@@ -1,8 +1,8 @@
 // One walk over all codewords. The codewords of the first rows, at most 256, are kept as a block; each sum of the other rows is added
 // to the whole block, so that a codeword costs one sum.
 use words::limits::WEIGHT_SLOTS;
-use words::sums::row_sum;
-use words::tables::fill_sums;
+use sums::row_sum;
+use sums::fill_sums;
 use words::word::distance;
 ghost use mathlib.Core.Path.{_≡_};
 ghost use mathlib.Core.List.{map, _++_};

@@ -1,6 +1,6 @@
 // Part 3 alone: weight counts, minimum distance and the lightest codeword.
 use crate::description::describe;
-use words::answer::Answer;
+use answers::Answer;
 use words::limits::WEIGHT_SLOTS;
 ghost use Rattle.weights.specs.Description.{WeightsOf};
 

@@ -12,15 +12,16 @@ use Rattle.coding.specs.Matrix.{Inside, Independent, Depends, dependsAt}
 use Rattle.coding.proofs.DependLaws.{firstDependent, dependent-is, dependent-there, dependent-before, dependent-independent, none-independent, independent-none}
 use Rattle.coding.proofs.SearchLaws.{first-le}
 use Rattle.words.specs.Limits.{width, inRange}
-use Rattle.words.specs.Refusal.{unless, andThen, Between, EveryRow}
+use Rattle.answers.specs.Refusal.{unless, andThen, Between}
+use Rattle.words.specs.Widest.{EveryRow}
 use Rattle.words.specs.Shape.{firstOutside, shapeAnswer}
-use Rattle.words.proofs.AnswerLaws.{first-refused, first-passes, first-done, andThen-done}
-use Rattle.words.proofs.AnswerLaws.{Numbered, Neither, neither, unless-numbered, andThen-numbered, never}
+use Rattle.answers.proofs.AnswerLaws.{first-refused, first-passes, first-done, andThen-done}
+use Rattle.answers.proofs.AnswerLaws.{Numbered, Neither, neither, unless-numbered, andThen-numbered, never}
 use Rattle.words.proofs.ShapeLaws.{shape-in, in-shape, shape-passes}
 use Rattle.words.specs.Accepted.{matrixAnswer, Accepted}
-use Rattle.words.specs.declared.answer.Refusal.{Refusal}
-use Rattle.words.specs.declared.answer.Refusal.the-variants.{OutOfRange, RowCount, RowOutside, Dependent}
-use Rattle.words.specs.declared.answer.Answer.the-variants.{Done, Refused}
+use Rattle.answers.specs.declared.answer.Refusal.{Refusal}
+use Rattle.answers.specs.declared.answer.Refusal.the-variants.{OutOfRange, RowCount, RowOutside, Dependent}
+use Rattle.answers.specs.declared.answer.Answer.the-variants.{Done, Refused}
 
 -- ---- cause 4, from the row at which the elimination ended
 

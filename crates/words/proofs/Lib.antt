@@ -1,6 +1,5 @@
-pub mod AnswerLaws  -- causes in order, and what an answer leaves in a list
 pub mod ShapeLaws  -- causes 1 to 3
 pub mod WordListLaws  -- causes 6 to 8
 pub mod AcceptedLaws  -- causes 1 to 4 and the accepted matrix
 pub mod CodeLaws  -- the code of an accepted matrix
-pub mod TableLaws  -- tables of sums
+pub mod ResultLaws  -- one result for each word

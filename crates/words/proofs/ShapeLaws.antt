@@ -11,12 +11,14 @@ use borrow.Author.Tests.{leb-true, le-leb, eqb-true, eq-eqb, lt-ltb, ltb-true, n
 use Rattle.coding.specs.Matrix.{Inside}
 use Rattle.coding.proofs.SearchLaws.{first-is, first-before}
 use Rattle.words.specs.Limits.{maxPlaces, maxRows, maxChecks, width, InRange, inRange}
-use Rattle.words.specs.Refusal.{refuseFirst}
+use Rattle.answers.specs.Refusal.{refuseFirst, andThen, Never}
 use Rattle.words.specs.Shape.{outside, firstOutside, shapeAnswer}
-use Rattle.words.proofs.AnswerLaws.{unless-done, first-passes, first-done, Numbered, Neither, neither, unless-numbered}
-use Rattle.words.specs.declared.answer.Refusal.{Refusal}
-use Rattle.words.specs.declared.answer.Refusal.the-variants.{OutOfRange, RowCount, RowOutside}
-use Rattle.words.specs.declared.answer.Answer.the-variants.{Done}
+use Rattle.words.specs.Widest.{EveryRow}
+use Rattle.answers.proofs.AnswerLaws.{unless-done, first-passes, first-done, Numbered, Neither, neither, unless-numbered, then-never}
+use Rattle.answers.specs.declared.answer.Refusal.{Refusal}
+use Rattle.answers.specs.declared.answer.Answer.{Answer}
+use Rattle.answers.specs.declared.answer.Refusal.the-variants.{OutOfRange, RowCount, RowOutside}
+use Rattle.answers.specs.declared.answer.Answer.the-variants.{Done}
 
 -- ---- cause 1
 
@@ -104,3 +106,13 @@ unfolding shapeAnswer
 shape-passes k rows f =
     unless-numbered (Neither 3 7) (inRange width k) OutOfRange _ (neither 3 7 1 refl refl)
     (unless-numbered (Neither 3 7) (eqb (length rows) k) RowCount _ (neither 3 7 2 refl refl) (rw (every-passes RowOutside rows f) tt))
+
+-- ---- words of 32 places
+
+-- 02, No. 7: an answer that is named in another way
+pub every-row-of : {n : ℕ} (r answer : Answer) → r ≡ answer → EveryRow n r → EveryRow n answer
+every-row-of r answer e f w = rw e at (f w)
+
+-- and 3 is a cause of the first group alone
+pub rows-first : (n : ℕ) (a later r : Answer) → r ≡ andThen a later → EveryRow n a → Never 3 later → EveryRow n r
+rows-first n a later r e f g w = rw e (then-never 3 a later (f w) g)

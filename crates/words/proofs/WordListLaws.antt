@@ -9,9 +9,9 @@ use Rattle.coding.specs.Matrix.{Inside}
 use Rattle.words.specs.Limits.{maxWords, width}
 use Rattle.words.specs.Shape.{outside, firstOutside}
 use Rattle.words.specs.Lists.{manyAnswer, insideAnswer, roomAnswer, listAnswer}
-use Rattle.words.specs.declared.answer.Refusal.the-variants.{TooManyWords, WordOutside, ShortOutput}
-use Rattle.words.specs.declared.answer.Answer.the-variants.{Done}
-use Rattle.words.proofs.AnswerLaws.{unless-done, first-done, andThen-done, Numbered, Neither, neither, unless-numbered, andThen-numbered}
+use Rattle.answers.specs.declared.answer.Refusal.the-variants.{TooManyWords, WordOutside, ShortOutput}
+use Rattle.answers.specs.declared.answer.Answer.the-variants.{Done}
+use Rattle.answers.proofs.AnswerLaws.{unless-done, first-done, andThen-done, Numbered, Neither, neither, unless-numbered, andThen-numbered}
 use Rattle.words.proofs.ShapeLaws.{outside-none, every-passes}
 
 -- what 7 and 8 leave known when they pass

@@ -5,11 +5,11 @@ use Prim.Native.Nat.{ℕ}
 use lib.ListN.{length}
 use Rattle.coding.specs.Matrix.{Inside, Independent, dependsAt}
 use Rattle.words.specs.Limits.{InRange}
-use Rattle.words.specs.Refusal.{refuseFirst, andThen}
+use Rattle.answers.specs.Refusal.{refuseFirst, andThen}
 use Rattle.words.specs.Shape.{shapeAnswer}
-use Rattle.words.specs.declared.answer.Refusal.the-variants.{Dependent}
-use Rattle.words.specs.declared.answer.Answer.{Answer}
-use Rattle.words.specs.declared.answer.Answer.the-variants.{Done}
+use Rattle.answers.specs.declared.answer.Refusal.the-variants.{Dependent}
+use Rattle.answers.specs.declared.answer.Answer.{Answer}
+use Rattle.answers.specs.declared.answer.Answer.the-variants.{Done}
 
 -- causes 1 to 4, in order
 unfoldable pub matrixAnswer : ℕ → ℕ → List ℕ → Answer

@@ -4,11 +4,11 @@ use Prim.Native.Nat.{ℕ}
 use lib.Dec.{leb}
 use lib.ListN.{length}
 use Rattle.words.specs.Limits.{maxWords}
-use Rattle.words.specs.Refusal.{unless, refuseFirst, andThen}
+use Rattle.answers.specs.Refusal.{unless, refuseFirst, andThen}
 use Rattle.words.specs.Shape.{outside}
-use Rattle.words.specs.declared.answer.Refusal.the-variants.{TooManyWords, WordOutside, ShortOutput}
-use Rattle.words.specs.declared.answer.Answer.{Answer}
-use Rattle.words.specs.declared.answer.Answer.the-variants.{Done}
+use Rattle.answers.specs.declared.answer.Refusal.the-variants.{TooManyWords, WordOutside, ShortOutput}
+use Rattle.answers.specs.declared.answer.Answer.{Answer}
+use Rattle.answers.specs.declared.answer.Answer.the-variants.{Done}
 
 -- cause 6: more than 512 words
 abbrev pub manyAnswer : List ℕ → Answer

@@ -6,10 +6,10 @@ use lib.Dec.{eqb, ltb}
 use lib.ListN.{length, getD}
 use Rattle.coding.specs.Lists.{first}
 use Rattle.words.specs.Limits.{inRange}
-use Rattle.words.specs.Refusal.{unless, refuseFirst}
-use Rattle.words.specs.declared.answer.Refusal.the-variants.{OutOfRange, RowCount, RowOutside}
-use Rattle.words.specs.declared.answer.Answer.{Answer}
-use Rattle.words.specs.declared.answer.Answer.the-variants.{Done}
+use Rattle.answers.specs.Refusal.{unless, refuseFirst}
+use Rattle.answers.specs.declared.answer.Refusal.the-variants.{OutOfRange, RowCount, RowOutside}
+use Rattle.answers.specs.declared.answer.Answer.{Answer}
+use Rattle.answers.specs.declared.answer.Answer.the-variants.{Done}
 
 -- word i has a one at place n or beyond
 abbrev pub outside : ℕ → List ℕ → ℕ → Bool

@@ -1,6 +1,6 @@
 // Causes 6 to 8: the list of words of a call and the room for its results.
-use crate::answer::Answer;
-use crate::answer::Refusal;
+use answers::Answer;
+use answers::Refusal;
 use crate::limits::MAX_WORDS;
 use crate::shape::first_outside;
 ghost use mathlib.Core.Path.{_≡_};

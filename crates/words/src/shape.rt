@@ -1,6 +1,6 @@
 // Causes 1 to 3: the shape of a matrix.
-use crate::answer::Answer;
-use crate::answer::Refusal;
+use answers::Answer;
+use answers::Refusal;
 use crate::limits::MAX_CHECKS;
 use crate::limits::MAX_PLACES;
 use crate::limits::MAX_ROWS;

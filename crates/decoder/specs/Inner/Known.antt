@@ -7,9 +7,9 @@ use Rattle.coding.specs.Lists.{padded}
 use Rattle.coding.specs.Check.{checks}
 use Rattle.coding.specs.Weight.{dmin}
 use Rattle.words.specs.Limits.{maxChecks}
-use Rattle.words.specs.Refusal.{ifDone}
-use Rattle.words.specs.declared.answer.Answer.{Answer}
-use Rattle.words.specs.declared.answer.Answer.the-variants.{Done}
+use Rattle.answers.specs.Refusal.{ifDone}
+use Rattle.answers.specs.declared.answer.Answer.{Answer}
+use Rattle.answers.specs.declared.answer.Answer.the-variants.{Done}
 use Rattle.parity.specs.ParityChecks.{ParityChecksOf}
 use Rattle.outcomes.specs.declared.ending.Reading.{Reading}
 use Rattle.outcomes.specs.declared.ending.Reading.the-variants.{Nearest, Within}

@@ -2,10 +2,10 @@
 use mathlib.Core.Bool.{Bool, _&&_}
 use Prim.Native.Nat.{ℕ, _^_}
 use lib.Dec.{ltb}
-use Rattle.words.specs.Refusal.{unless}
-use Rattle.words.specs.declared.answer.Refusal.the-variants.{NoWidth, BeyondWidth}
-use Rattle.words.specs.declared.answer.Answer.{Answer}
-use Rattle.words.specs.declared.answer.Answer.the-variants.{Done}
+use Rattle.answers.specs.Refusal.{unless}
+use Rattle.answers.specs.declared.answer.Refusal.the-variants.{NoWidth, BeyondWidth}
+use Rattle.answers.specs.declared.answer.Answer.{Answer}
+use Rattle.answers.specs.declared.answer.Answer.the-variants.{Done}
 use Rattle.hsiao.specs.Widths.Code.{isWidth, checksOf}
 use Rattle.hsiao.specs.declared.word.Word.{Word}
 

@@ -1,8 +1,8 @@
 -- 02, No. 3: what decoding with a width answers, and 00's demand 3 at r = 1, dmin = 4.
 use mathlib.Core.Path.{_≡_}
 use Prim.Native.Nat.{ℕ}
-use Rattle.words.specs.Refusal.{ifDone}
-use Rattle.words.specs.declared.answer.Answer.the-variants.{Done}
+use Rattle.answers.specs.Refusal.{ifDone}
+use Rattle.answers.specs.declared.answer.Answer.the-variants.{Done}
 use Rattle.hsiao.specs.Outcome.{outcomeBy, wordIn, countIn}
 use Rattle.hsiao.specs.Decoded.{DecodedBy}
 use Rattle.hsiao.specs.Widths.Code.{checksOf, columnsOf}

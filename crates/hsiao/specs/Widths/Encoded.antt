@@ -2,8 +2,8 @@
 use mathlib.Core.Path.{_≡_}
 use Prim.Native.Nat.{ℕ}
 use Rattle.coding.specs.Matrix.{encode}
-use Rattle.words.specs.Refusal.{ifDone}
-use Rattle.words.specs.declared.answer.Answer.the-variants.{Done}
+use Rattle.answers.specs.Refusal.{ifDone}
+use Rattle.answers.specs.declared.answer.Answer.the-variants.{Done}
 use Rattle.hsiao.specs.Encoded.{EncodedBy}
 use Rattle.hsiao.specs.Widths.Code.{checksOf, columnsOf, WidthTable}
 use Rattle.hsiao.specs.Widths.Causes.{dataAnswer}

@@ -4,9 +4,9 @@ use mathlib.Core.Logic.{_↔_}
 use mathlib.Core.Bool.{true}
 use Prim.Native.Nat.{ℕ}
 use Rattle.coding.specs.Columns.{SplitCodeword}
-use Rattle.words.specs.Refusal.{ifDone}
-use Rattle.words.specs.declared.answer.Answer.{Answer}
-use Rattle.words.specs.declared.answer.Answer.the-variants.{Done}
+use Rattle.answers.specs.Refusal.{ifDone}
+use Rattle.answers.specs.declared.answer.Answer.{Answer}
+use Rattle.answers.specs.declared.answer.Answer.the-variants.{Done}
 use Rattle.hsiao.specs.Table.{split}
 use Rattle.hsiao.specs.MessageRead.{messageBy}
 use Rattle.hsiao.specs.Widths.Code.{isWidth, checksOf, columnsOf}

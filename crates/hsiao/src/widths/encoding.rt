@@ -1,11 +1,11 @@
 // Encode: the check bits of 16, 32 or 64 data bits.
 use crate::encoding::column_sum;
 use crate::widths::fits;
-use words::answer::Answer;
-use words::answer::Refusal;
+use answers::Answer;
+use answers::Refusal;
 ghost use mathlib.Core.Path.{_≡_};
 ghost use mathlib.Core.Bool.{true};
-ghost use Rattle.words.specs.declared.answer.Answer.the-variants.{Refused};
+ghost use Rattle.answers.specs.declared.answer.Answer.the-variants.{Refused};
 ghost use Rattle.hsiao.specs.Widths.Code.{isWidth};
 ghost use Rattle.hsiao.specs.Widths.Encoded.{Encoded};
 

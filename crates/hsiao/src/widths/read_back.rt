@@ -3,11 +3,11 @@ use crate::read_back::ReadBack;
 use crate::syndromes::syndrome;
 use crate::widths::has_places;
 use crate::word::Word;
-use words::answer::Answer;
-use words::answer::Refusal;
+use answers::Answer;
+use answers::Refusal;
 ghost use mathlib.Core.Path.{_≡_};
 ghost use mathlib.Core.Bool.{true};
-ghost use Rattle.words.specs.declared.answer.Answer.the-variants.{Refused};
+ghost use Rattle.answers.specs.declared.answer.Answer.the-variants.{Refused};
 ghost use Rattle.hsiao.specs.Widths.Code.{isWidth, checksOf};
 ghost use Rattle.hsiao.specs.Widths.MessageRead.{MessageRead};
 

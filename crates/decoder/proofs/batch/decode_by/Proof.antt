@@ -11,8 +11,8 @@ use Rattle.coding.specs.Check.{checks}
 use Rattle.coding.proofs.MachineLaws.{shl-one}
 use Rattle.words.specs.Limits.{maxChecks, width}
 use Rattle.words.specs.Accepted.{Accepted}
-use Rattle.words.specs.declared.answer.Answer.{Answer}
-use Rattle.words.specs.declared.answer.Answer.the-variants.{Done}
+use Rattle.answers.specs.declared.answer.Answer.{Answer}
+use Rattle.answers.specs.declared.answer.Answer.the-variants.{Done}
 use Rattle.parity.proofs.CodeOfLaws.{first-checks}
 use Rattle.leaders.specs.Leaders.{workAnswer, leadersList}
 use Rattle.leaders.proofs.LeaderPromiseLaws.{work-short, work-done, list-kept, leaders-stand}

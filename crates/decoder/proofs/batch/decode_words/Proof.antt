@@ -7,7 +7,7 @@ use lib.Seq.{length-take-le}
 use borrow.Author.Needs.{needs}
 use Rattle.decoder.specs.Inner.SlotsBy.{wordsWith, countsWith}
 use Rattle.coding.specs.Check.{syndrome}
-use Rattle.words.proofs.TableLaws.{first-are, first-long, first-fit, later-are}
+use Rattle.words.proofs.ResultLaws.{first-are, first-long, first-fit, later-are}
 use Rattle.decoder.proofs.SlotLaws.{words-with, counts-with}
 use Rattle.decoder.proofs.batch.decode_words.Statement.{statement}
 use Rattle.decoder.proofs.batch.decode_words.Tie as tie

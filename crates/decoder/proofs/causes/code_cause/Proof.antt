@@ -1,7 +1,7 @@
 -- `decoder::causes::code_cause`: the rows are numbers of 32 bits. Assumes nothing.
 use mathlib.Core.Path.{sym}
 use borrow.Author.Needs.{needs}
-use Rattle.words.proofs.AnswerLaws.{every-row-of}
+use Rattle.words.proofs.ShapeLaws.{every-row-of}
 use Rattle.words.proofs.AcceptedLaws.{matrix-every-row}
 use Rattle.decoder.proofs.CauseLaws.{code-every-row}
 use Rattle.decoder.proofs.causes.code_cause.Statement.{statement}

@@ -3,7 +3,7 @@ use mathlib.Core.Path.{_≡_, sym, subst, _∙_}
 use mathlib.Core.Bool.{Bool, true}
 use borrow.Author.Needs.{needs}
 use Rattle.coding.specs.Weight.{dmin}
-use Rattle.words.proofs.AnswerLaws.{refused-done}
+use Rattle.answers.proofs.AnswerLaws.{refused-done}
 use Rattle.parity.proofs.CodeOfLaws.{checks-of}
 use Rattle.decoder.specs.Inner.Known.{asked, KnownOf}
 use Rattle.decoder.proofs.CauseLaws.{radius-same, asked-within, asked-measured, distance-of, at-matrix, at-radius}

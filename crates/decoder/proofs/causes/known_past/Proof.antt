@@ -2,7 +2,7 @@
 use mathlib.Core.Path.{sym, ap, _∙_}
 use borrow.Author.Needs.{needs}
 use Rattle.words.specs.Lists.{listAnswer}
-use Rattle.words.proofs.AnswerLaws.{refused-done, stays, goes}
+use Rattle.answers.proofs.AnswerLaws.{refused-done, stays, goes}
 use Rattle.decoder.specs.Causes.{codeAnswer}
 use Rattle.decoder.proofs.causes.known_past.Statement.{statement}
 use Rattle.decoder.proofs.causes.known_past.Tie as tie

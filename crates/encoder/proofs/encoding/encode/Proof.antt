@@ -3,13 +3,14 @@ use mathlib.Core.Path.{_≡_, sym, _∙_}
 use lib.ListN.{length}
 use borrow.Author.Needs.{needs}
 use Rattle.coding.specs.Matrix.{encode}
-use Rattle.words.specs.Refusal.{EveryRow}
+use Rattle.words.specs.Widest.{EveryRow}
 use Rattle.words.specs.Accepted.{matrixAnswer}
 use Rattle.words.specs.Lists.{listAnswer}
-use Rattle.words.specs.declared.answer.Answer.the-variants.{Done}
-use Rattle.words.proofs.AnswerLaws.{stays, goes, every-row-of, kept, written}
+use Rattle.answers.specs.declared.answer.Answer.the-variants.{Done}
+use Rattle.answers.proofs.AnswerLaws.{stays, goes, kept, written}
+use Rattle.words.proofs.ShapeLaws.{every-row-of}
 use Rattle.words.proofs.WordListLaws.{list-in}
-use Rattle.words.proofs.TableLaws.{enough-slots}
+use Rattle.words.proofs.ResultLaws.{enough-slots}
 use Rattle.encoder.proofs.EncoderLaws.{encoded}
 use Rattle.encoder.proofs.encoding.encode.Statement.{statement}
 use Rattle.encoder.proofs.encoding.encode.Tie as tie

@@ -5,7 +5,7 @@ use borrow.Author.Needs.{needs}
 use Rattle.coding.specs.Lists.{zeros}
 use Rattle.coding.specs.Check.{syndrome}
 use Rattle.words.specs.Shape.{firstOutside}
-use Rattle.words.proofs.TableLaws.{first-are, first-long, first-sum}
+use Rattle.words.proofs.ResultLaws.{first-are, first-long, first-nonzero}
 use Rattle.encoder.proofs.read_back.first_other.Statement.{statement}
 use Rattle.encoder.proofs.read_back.first_other.Tie as tie
 
@@ -18,7 +18,7 @@ returns c =
     let a = start r .args in
     c .first-outside .ensures
     ∙ ap (firstOutside 0) (first-are _ (a .words .now) (zeros 512) _ (start r .pre) (r .syndromes .ensures .slots))
-    ∙ first-sum (syndrome (take (a .c) (a .checks .now))) (a .words .now)
+    ∙ first-nonzero (syndrome (take (a .c) (a .checks .now))) (a .words .now)
 
 pub first-other-spec : {M : Type 1} → statement M
 first-other-spec =

@@ -10,12 +10,12 @@ use Rattle.coding.specs.Matrix.{encode, messageOf, Inside}
 use Rattle.words.specs.Limits.{width}
 use Rattle.words.specs.Accepted.{matrixAnswer, Accepted}
 use Rattle.words.specs.Lists.{listAnswer}
-use Rattle.words.specs.declared.answer.Refusal.the-variants.{NoCodeword}
-use Rattle.words.specs.declared.answer.Answer.the-variants.{Done}
+use Rattle.answers.specs.declared.answer.Refusal.the-variants.{NoCodeword}
+use Rattle.answers.specs.declared.answer.Answer.the-variants.{Done}
 use Rattle.words.proofs.AcceptedLaws.{accepted-in}
-use Rattle.words.proofs.AnswerLaws.{stays, goes, first-refused, first-passes, kept, written}
+use Rattle.answers.proofs.AnswerLaws.{stays, goes, first-refused, first-passes, kept, written}
 use Rattle.words.proofs.WordListLaws.{list-in}
-use Rattle.words.proofs.TableLaws.{enough-slots}
+use Rattle.words.proofs.ResultLaws.{enough-slots}
 use Rattle.parity.proofs.CodeOfLaws.{checks-of, first-checks}
 use Rattle.encoder.specs.MessagesRead.{other}
 use Rattle.encoder.proofs.EncoderLaws.{messages-are, messages-read, past, other-found}

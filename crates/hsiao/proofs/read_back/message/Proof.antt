@@ -3,7 +3,7 @@ use mathlib.Core.Path.{_≡_, refl, sym, _∙_}
 use mathlib.Core.Bool.{true, false}
 use lib.Dec.{eqb}
 use borrow.Author.Tests.{eq-eqb, ne-eqb}
-use Rattle.words.proofs.AnswerLaws.{refused-done}
+use Rattle.answers.proofs.AnswerLaws.{refused-done}
 use Rattle.hsiao.specs.Table.{syndromeOf}
 use borrow.Author.Needs.{needs}
 use Rattle.hsiao.proofs.read_back.message.Statement.{statement}

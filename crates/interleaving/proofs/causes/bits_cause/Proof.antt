@@ -2,8 +2,8 @@
 use mathlib.Core.Path.{_≡_, sym, _∙_}
 use lib.ListN.{length}
 use borrow.Author.Needs.{needs}
-use Rattle.words.specs.declared.answer.Answer.the-variants.{Done}
-use Rattle.words.proofs.AnswerLaws.{stays}
+use Rattle.answers.specs.declared.answer.Answer.the-variants.{Done}
+use Rattle.answers.proofs.AnswerLaws.{stays}
 use Rattle.interleaving.specs.Causes.{lengthAnswer, bitsAnswer}
 use Rattle.interleaving.proofs.BitLaws.{bits-decide}
 use Rattle.interleaving.proofs.causes.bits_cause.Statement.{statement}

@@ -1,7 +1,7 @@
 -- `interleaving::decoding::after_code`: causes 1 to 5, then the refusal. Assumes nothing.
 use mathlib.Core.Path.{sym, _∙_}
 use borrow.Author.Needs.{needs}
-use Rattle.words.proofs.AnswerLaws.{stays, goes}
+use Rattle.answers.proofs.AnswerLaws.{stays, goes}
 use Rattle.outcomes.specs.declared.ending.Reading.the-variants.{Within}
 use Rattle.decoder.specs.Causes.{codeAnswer}
 use Rattle.interleaving.proofs.decoding.after_code.Statement.{statement}

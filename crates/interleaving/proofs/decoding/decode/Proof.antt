@@ -6,9 +6,9 @@ use lib.Seq.{take-at, length-take-le}
 use borrow.Author.Needs.{needs}
 use Rattle.coding.specs.Interleaving.{sortedWords}
 use Rattle.coding.proofs.InterleavingLaws.{sorted-long}
-use Rattle.words.specs.Refusal.{EveryRow}
+use Rattle.words.specs.Widest.{EveryRow}
 use Rattle.words.specs.Accepted.{matrixAnswer}
-use Rattle.words.specs.declared.answer.Answer.the-variants.{Done}
+use Rattle.answers.specs.declared.answer.Answer.the-variants.{Done}
 use Rattle.words.proofs.AcceptedLaws.{matrix-every-row}
 use Rattle.decoder.specs.Decoded.{Lent}
 use Rattle.interleaving.specs.Causes.{bitsAnswer}

@@ -6,12 +6,13 @@ use native.Mathlib.Omega.{arith}
 use lib.ListN.{length}
 use borrow.Author.Needs.{needs}
 use Rattle.coding.specs.Matrix.{Inside}
-use Rattle.words.specs.Refusal.{EveryRow}
+use Rattle.words.specs.Widest.{EveryRow}
 use Rattle.words.specs.Accepted.{matrixAnswer}
-use Rattle.words.specs.declared.answer.Answer.the-variants.{Done}
+use Rattle.answers.specs.declared.answer.Answer.the-variants.{Done}
 use Rattle.words.specs.Limits.{width}
 use Rattle.words.proofs.AcceptedLaws.{accepted-in}
-use Rattle.words.proofs.AnswerLaws.{stays, goes, every-row-of}
+use Rattle.answers.proofs.AnswerLaws.{stays, goes}
+use Rattle.words.proofs.ShapeLaws.{every-row-of}
 use Rattle.interleaving.specs.Causes.{lengthAnswer}
 use Rattle.interleaving.proofs.BitLaws.{length-in}
 use Rattle.interleaving.proofs.InterleavePromiseLaws.{interleave-refused, interleave-done}

@@ -3,12 +3,13 @@ use mathlib.Core.Path.{_≡_, sym, _∙_}
 use native.Mathlib.Omega.{arith}
 use lib.ListN.{length}
 use borrow.Author.Needs.{needs}
-use Rattle.words.specs.Refusal.{EveryRow}
+use Rattle.words.specs.Widest.{EveryRow}
 use Rattle.words.specs.Accepted.{matrixAnswer}
 use Rattle.words.specs.Lists.{roomAnswer}
-use Rattle.words.specs.declared.answer.Answer.the-variants.{Done}
+use Rattle.answers.specs.declared.answer.Answer.the-variants.{Done}
 use Rattle.words.proofs.AcceptedLaws.{accepted-in}
-use Rattle.words.proofs.AnswerLaws.{stays, goes, every-row-of}
+use Rattle.answers.proofs.AnswerLaws.{stays, goes}
+use Rattle.words.proofs.ShapeLaws.{every-row-of}
 use Rattle.words.proofs.WordListLaws.{room-in}
 use Rattle.interleaving.specs.Causes.{bitsAnswer}
 use Rattle.interleaving.proofs.BitLaws.{bits-in}

@@ -3,9 +3,9 @@ use mathlib.Core.Path.{refl, sym, _∙_}
 use native.Mathlib.Omega.{arith}
 use lib.ListN.{length}
 use borrow.Author.Needs.{needs}
-use Rattle.words.specs.Refusal.{EveryRow}
+use Rattle.words.specs.Widest.{EveryRow}
 use Rattle.words.specs.Accepted.{matrixAnswer, Accepted}
-use Rattle.words.proofs.AnswerLaws.{every-row-of}
+use Rattle.words.proofs.ShapeLaws.{every-row-of}
 use Rattle.words.proofs.AcceptedLaws.{accepted-in}
 use Rattle.parity.proofs.CodeOfLaws.{checks-of, checks-done}
 use Rattle.leaders.proofs.LeaderPromiseLaws.{matrix-refuses, work-refuses, work-short, work-done, list-kept}

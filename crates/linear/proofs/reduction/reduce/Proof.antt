@@ -1,10 +1,10 @@
 -- `linear::reduction::reduce`: the row at which the elimination ends is the first that is a sum of earlier rows. Assumes nothing.
 use mathlib.Core.Path.{_≡_, sym, _∙_}
 use Rattle.coding.proofs.WidthLaws.{inside-wide}
-use Rattle.words.specs.Refusal.{EveryRow}
+use Rattle.words.specs.Widest.{EveryRow}
 use Rattle.words.specs.Shape.{shapeAnswer}
 use Rattle.words.specs.Accepted.{matrixAnswer}
-use Rattle.words.specs.declared.answer.Answer.the-variants.{Done}
+use Rattle.answers.specs.declared.answer.Answer.the-variants.{Done}
 use Rattle.words.proofs.ShapeLaws.{shape-in}
 use Rattle.words.proofs.AcceptedLaws.{shape-refused, matrix-every-row}
 use Rattle.linear.proofs.PivotTableLaws.{reduction-refused}

@@ -7,7 +7,7 @@ use lib.ListN.{length, take, drop}
 use lib.Seq.{length-take-le}
 use borrow.Author.Needs.{needs}
 use Rattle.coding.specs.Check.{syndrome}
-use Rattle.words.proofs.TableLaws.{as-many}
+use Rattle.words.proofs.ResultLaws.{as-many}
 use Rattle.parity.proofs.SyndromeLaws.{syndromes-of, syndromes-first}
 use Rattle.parity.proofs.batch.syndromes_by.Statement.{statement}
 use Rattle.parity.proofs.batch.syndromes_by.Tie as tie

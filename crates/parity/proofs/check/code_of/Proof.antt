@@ -4,7 +4,7 @@ use Rattle.coding.specs.Lists.{padded}
 use Rattle.coding.specs.Reduce.{reduce}
 use Rattle.words.specs.Limits.{maxChecks}
 use Rattle.words.specs.Accepted.{Accepted}
-use Rattle.words.proofs.AnswerLaws.{every-row-of}
+use Rattle.words.proofs.ShapeLaws.{every-row-of}
 use Rattle.words.proofs.AcceptedLaws.{accepted-in}
 use Rattle.linear.proofs.PivotTableLaws.{reduced-rows, messages-refused, table-size, table-of}
 use Rattle.parity.proofs.ParityLaws.{checks-few, checks-are, parity-checks}

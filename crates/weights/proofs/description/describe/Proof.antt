@@ -11,7 +11,7 @@ use Rattle.coding.specs.Reduce.{reducedRows}
 use Rattle.coding.specs.Check.{checks}
 use Rattle.words.specs.Limits.{maxRows, maxChecks}
 use Rattle.words.specs.Accepted.{Accepted}
-use Rattle.words.proofs.AnswerLaws.{every-row-of}
+use Rattle.words.proofs.ShapeLaws.{every-row-of}
 use Rattle.words.proofs.AcceptedLaws.{accepted-in}
 use Rattle.linear.proofs.PivotTableLaws.{reduced-rows}
 use Rattle.parity.proofs.ParityLaws.{parity-checks}

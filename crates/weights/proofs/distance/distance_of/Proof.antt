@@ -11,7 +11,8 @@ use Rattle.coding.specs.Weight.{dmin}
 use Rattle.coding.specs.Reduce.{reducedRows}
 use Rattle.words.specs.Limits.{maxRows}
 use Rattle.words.specs.Accepted.{Accepted}
-use Rattle.words.proofs.AnswerLaws.{refused-done, every-row-of}
+use Rattle.answers.proofs.AnswerLaws.{refused-done}
+use Rattle.words.proofs.ShapeLaws.{every-row-of}
 use Rattle.words.proofs.AcceptedLaws.{accepted-in}
 use Rattle.words.proofs.CodeLaws.{distance-is}
 use Rattle.parity.proofs.CodeOfLaws.{checks-done}

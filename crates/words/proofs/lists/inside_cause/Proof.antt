@@ -2,9 +2,9 @@
 use lib.ListN.{length}
 use borrow.Author.Needs.{needs}
 use Rattle.words.specs.Shape.{outside}
-use Rattle.words.specs.declared.answer.Refusal.the-variants.{WordOutside}
-use Rattle.words.specs.declared.answer.Answer.the-variants.{Done}
-use Rattle.words.proofs.AnswerLaws.{first-refused, first-passes}
+use Rattle.answers.specs.declared.answer.Refusal.the-variants.{WordOutside}
+use Rattle.answers.specs.declared.answer.Answer.the-variants.{Done}
+use Rattle.answers.proofs.AnswerLaws.{first-refused, first-passes}
 use Rattle.words.proofs.lists.inside_cause.Statement.{statement}
 use Rattle.words.proofs.lists.inside_cause.Tie as tie
 

@@ -2,8 +2,8 @@
 use mathlib.Core.Path.{_≡_, sym, _∙_}
 use borrow.Author.Needs.{needs}
 use Rattle.words.specs.Lists.{manyAnswer, insideAnswer, listAnswer}
-use Rattle.words.specs.declared.answer.Answer.the-variants.{Done}
-use Rattle.words.proofs.AnswerLaws.{stays, goes}
+use Rattle.answers.specs.declared.answer.Answer.the-variants.{Done}
+use Rattle.answers.proofs.AnswerLaws.{stays, goes}
 use Rattle.words.proofs.lists.list_cause.Statement.{statement}
 use Rattle.words.proofs.lists.list_cause.Tie as tie
 

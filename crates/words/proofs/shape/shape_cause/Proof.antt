@@ -5,11 +5,11 @@ use borrow.Author.Tests.{eq-eqb, ne-eqb, not-true, not-false}
 use lib.ListN.{length}
 use borrow.Author.Needs.{needs}
 use Rattle.words.specs.Limits.{inRange}
-use Rattle.words.specs.Refusal.{refuseFirst}
+use Rattle.answers.specs.Refusal.{refuseFirst}
 use Rattle.words.specs.Shape.{outside, shapeAnswer}
-use Rattle.words.specs.declared.answer.Refusal.the-variants.{RowOutside}
-use Rattle.words.specs.declared.answer.Answer.the-variants.{Done}
-use Rattle.words.proofs.AnswerLaws.{first-refused, first-passes}
+use Rattle.answers.specs.declared.answer.Refusal.the-variants.{RowOutside}
+use Rattle.answers.specs.declared.answer.Answer.the-variants.{Done}
+use Rattle.answers.proofs.AnswerLaws.{first-refused, first-passes}
 use Rattle.words.proofs.shape.shape_cause.Statement.{statement}
 use Rattle.words.proofs.shape.shape_cause.Tie as tie
 

@@ -1,7 +1,7 @@
 -- `hsiao::widths::decoding::decode`: each width by itself, and anything else refused. Assumes nothing.
 use mathlib.Core.Path.{refl}
 use borrow.Author.Needs.{needs}
-use Rattle.words.specs.declared.answer.Refusal.the-variants.{NoWidth}
+use Rattle.answers.specs.declared.answer.Refusal.the-variants.{NoWidth}
 use Rattle.hsiao.specs.Table.{columns}
 use Rattle.hsiao.proofs.WidthCodeLaws.{no-width}
 use Rattle.hsiao.proofs.WidthAnswerLaws.{decode-refused}

@@ -2,7 +2,7 @@
 use mathlib.Core.Path.{_≡_, refl, sym, ap, _∙_}
 use mathlib.Core.Bool.{true}
 use borrow.Author.Tests.{not-true, not-false}
-use Rattle.words.specs.declared.answer.Refusal.the-variants.{BeyondWidth}
+use Rattle.answers.specs.declared.answer.Refusal.the-variants.{BeyondWidth}
 use Rattle.hsiao.specs.Outcome.{wordIn, countIn}
 use Rattle.hsiao.specs.Widths.Code.{checksOf}
 use Rattle.hsiao.specs.Widths.Causes.{hasPlaces}

@@ -4,7 +4,7 @@ use mathlib.Core.Bool.{false}
 use Prim.Native.Nat.{_^_}
 use lib.Dec.{ltb}
 use borrow.Author.Tests.{not-true, not-false}
-use Rattle.words.specs.declared.answer.Refusal.the-variants.{BeyondWidth}
+use Rattle.answers.specs.declared.answer.Refusal.the-variants.{BeyondWidth}
 use Rattle.hsiao.proofs.WidthAnswerLaws.{encode-refused, encode-done}
 use borrow.Author.Needs.{needs}
 use Rattle.hsiao.proofs.widths.encoding.encoded.Statement.{statement}

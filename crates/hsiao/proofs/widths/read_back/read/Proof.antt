@@ -2,9 +2,9 @@
 use mathlib.Core.Path.{_≡_, refl, sym, _∙_}
 use lib.Dec.{eqb}
 use borrow.Author.Tests.{not-true, not-false, eq-eqb, ne-eqb}
-use Rattle.words.specs.Refusal.{unless}
-use Rattle.words.specs.declared.answer.Refusal.the-variants.{BeyondWidth, NoCodeword}
-use Rattle.words.specs.declared.answer.Answer.the-variants.{Done}
+use Rattle.answers.specs.Refusal.{unless}
+use Rattle.answers.specs.declared.answer.Refusal.the-variants.{BeyondWidth, NoCodeword}
+use Rattle.answers.specs.declared.answer.Answer.the-variants.{Done}
 use Rattle.hsiao.specs.Widths.Code.{checksOf}
 use Rattle.hsiao.specs.Widths.Causes.{hasPlaces}
 use Rattle.hsiao.specs.Widths.MessageRead.{messageAnswer}
