@@ -25,8 +25,8 @@ use Rattle.answers.proofs.AnswerLaws.{Numbered, Neither, neither, unless-number
 use Rattle.words.proofs.ShapeLaws.{rows-first}
 use Rattle.words.proofs.ShapeLaws.{inside-none}
 use Rattle.words.proofs.WordListLaws.{Listed, list-in, list-numbered, list-passes}
-use Rattle.weights.specs.Distance.{DistanceOf}
-use Rattle.weights.specs.declared.distance.Distance.{Distance}
+use Rattle.distance.specs.Distance.{DistanceOf}
+use Rattle.distance.specs.declared.distance.Distance.{Distance}
 use Rattle.decoder.specs.Inner.Known.{asked, KnownOf}
 use Rattle.decoder.specs.declared.matrix.Known.{Known}
 use Rattle.decoder.specs.Causes.{radiusAnswer, codeAnswer, listsAnswer, decodeAnswer}

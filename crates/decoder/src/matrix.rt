@@ -1,7 +1,7 @@
 // What Decode takes from the matrix: one elimination, and the minimum distance only where it is asked for.
 use outcomes::Reading;
 use parity::code_of;
-use weights::distance_of;
+use distance::distance_of;
 use answers::Answer;
 use words::limits::MAX_CHECKS;
 ghost use mathlib.Core.Path.{_≡_};

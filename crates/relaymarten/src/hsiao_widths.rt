@@ -1,7 +1,6 @@
 // The codes of 16, 32 and 64 data bits, one word at a time, by the width, given as its check bits and its data.
 use crate::told::tell;
 use hsiao::Word;
-use hsiao::widths;
 ghost use Rattle.answers.specs.declared.answer.Answer.the-variants.{Done};
 ghost use Rattle.hsiao.specs.Widths.Causes.{dataAnswer, wordAnswer};
 ghost use Rattle.hsiao.specs.Widths.Encoded.{Encoded};
@@ -23,7 +22,7 @@ pub extern "C" fn relay_hsiao_width_encode(
         r
         (now (value .exit)) ⌝ }
 {
-    let e = widths::encode(width, bits);
+    let e = hsiao::widths::encode(width, bits);
     *check = e.check;
     let a = e.answer;
     tell(a, value)
@@ -51,7 +50,7 @@ pub extern "C" fn relay_hsiao_width_decode(
         (now (value .exit)) ⌝ }
 {
     let w = Word { check, data: bits };
-    let d = widths::decode(width, w);
+    let d = hsiao::widths::decode(width, w);
     let c = d.word;
     *out_check = c.check;
     *out_bits = c.data;
@@ -76,7 +75,7 @@ pub extern "C" fn relay_hsiao_width_message(
         (now (value .exit)) ⌝ }
 {
     let w = Word { check, data: bits };
-    let b = widths::message(width, w);
+    let b = hsiao::widths::message(width, w);
     *out = b.data;
     let a = b.answer;
     tell(a, value)

@@ -8,7 +8,8 @@ use borrow.Author.Tests.{lt-ltb}
 use lib.ListN.{length, take}
 use lib.Seq.{take-all, length-take-le}
 use Rattle.sheet.specs.Sheet.{maxSheet, sheetOf}
-use Rattle.sheet_run.specs.Output.{refusedLine, outputOf}
+use Rattle.sheet_run.specs.Output.{outputOf}
+use Rattle.lines.specs.Line.{refusedLine}
 use Rattle.sheet_program.specs.Inner.Enough.{Enough}
 
 too-long : (s : List ℕ) → maxSheet < length s → outputOf s ≡ refusedLine 12 maxSheet

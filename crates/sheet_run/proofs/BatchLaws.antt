@@ -19,17 +19,20 @@ use Rattle.answers.specs.declared.answer.Refusal.{Refusal}
 use Rattle.answers.specs.declared.answer.Answer.{Answer}
 use Rattle.answers.specs.declared.answer.Answer.the-variants.{Done, Refused}
 use Rattle.words.proofs.AcceptedLaws.{accepted-in}
-use Rattle.words.proofs.CodeLaws.{distance-is, leader-weight}
+use Rattle.words.proofs.CodeLaws.{leader-weight}
 use Rattle.outcomes.specs.Outcome.{takes, outcomeOf, decodedAs, wordOf, countOf}
 use Rattle.decoder.specs.Causes.{decodeAnswer}
 use Rattle.decoder.specs.Decoded.{Batch, Lent, Decoded}
 use Rattle.outcomes.specs.declared.ending.Reading.{Reading}
 use Rattle.decoder.proofs.CauseLaws.{Passed, batch-in}
-use Rattle.sheet_run.specs.Text.{space, lineFeed}
-use Rattle.sheet_run.specs.Closing.{tallyOf, closingLine}
-use Rattle.sheet_run.specs.Output.{digitsOf, ending, wordLine, wordLines, refusedLine, codeLine, linesOf, batchOutput}
-use Rattle.sheet_run.specs.Inner.Slots.{slotOutcome, slotLine, slotLines, slotTally}
-use Rattle.sheet_run.proofs.TallyLaws.{bare, bare-says, Tells, slot-says, tally-read}
+use Rattle.lines.specs.Text.{space, lineFeed}
+use Rattle.lines.specs.Closing.{closingLine}
+use Rattle.tally.specs.Tally.{tallyOf}
+use Rattle.sheet_run.specs.Output.{wordLine, wordLines, linesOf, batchOutput}
+use Rattle.lines.specs.Line.{digitsOf, ending, refusedLine, codeLine}
+use Rattle.lines.specs.Batch.{slotLine, slotLines}
+use Rattle.tally.specs.Slots.{slotOutcome, slotTally}
+use Rattle.tally.proofs.TallyLaws.{bare, bare-says, Tells, slot-says, tally-read}
 
 -- ---- the lines and the tally by the slots
 
@@ -84,10 +87,6 @@ module _ {B : Batch} {r : Answer} {after : Lent}
 
     pub few-places : B .n ≤ 32
     few-places = omega (arith, accepted .range .places)
-
-    -- the minimum distance beside the answer
-    pub apart : (x : ℕ) → x ≡ ifDone r (dmin (B .rows)) 0 → 1 ≤ x
-    apart x e = rw (e, d) (distance-is (B .n) (B .k) (B .rows) accepted .bounds .0)
 
     codewords-are : take (length (B .words)) (after .codewords) ≡ map (wordOf (B .n) (B .rows) (B .reading)) (B .words)
     codewords-are =

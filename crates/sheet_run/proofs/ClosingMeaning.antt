@@ -1,11 +1,9 @@
 -- What the closing line means: its four numbers are those that the lines of the words show, and each word is counted once. Assumes nothing.
 use mathlib.Core.Path.{_≡_, refl, ap, _∙_}
-use mathlib.Core.Bool.{true}
 use mathlib.Core.List.{List, [], _∷_, _++_, map, append-assoc}
-use Prim.Native.Nat.{ℕ, _+_, _-_, _/_, _^_, _<_}
+use Prim.Native.Nat.{ℕ, _^_}
 use native.Mathlib.Omega.{arith}
-use lib.ListN.{length, take, length-map}
-use Rattle.coding.specs.Word.{bit}
+use lib.ListN.{length, length-map}
 use Rattle.coding.specs.Weight.{dmin}
 use Rattle.words.specs.Limits.{maxWords, maxChecks}
 use Rattle.words.specs.Accepted.{Accepted}
@@ -15,7 +13,6 @@ use Rattle.words.proofs.AcceptedLaws.{accepted-in}
 use Rattle.outcomes.specs.Outcome.{wordIn, decodedAs}
 use Rattle.outcomes.specs.declared.ending.Reading.{Reading}
 use Rattle.outcomes.specs.declared.ending.Outcome.{Outcome}
-use Rattle.outcomes.specs.declared.ending.Outcome.the-variants.{Clean, Mended, Far}
 use Rattle.decoder.specs.Causes.{decodeAnswer}
 use Rattle.decoder.proofs.CauseLaws.{batch-in}
 use Rattle.sheet.specs.Sheet.{sheetOf}
@@ -24,45 +21,21 @@ use Rattle.sheet.specs.declared.answer.Sheet.{Sheet}
 use Rattle.sheet.specs.declared.answer.SheetAnswer.{SheetAnswer}
 use Rattle.sheet.specs.declared.answer.SheetAnswer.the-variants as reading
 use Rattle.sheet.proofs.SpanLaws.{length-words}
-use Rattle.sheet_run.specs.Decimal.{decimal}
-use Rattle.sheet_run.specs.Text.{written, space, lineFeed}
-use Rattle.sheet_run.specs.Closing.{tallyOf, closingLine}
-use Rattle.sheet_run.specs.Output.{refusedLine, codeLine, digitsOf, ending, wordLine, wordLines, linesOf, batchOutput, printed, outputOf}
-use Rattle.sheet_run.specs.Shown.{cutAt, afterBlank, shown, ClosingShows, Closed}
-use Rattle.sheet_run.specs.declared.tally.Tally.{Tally}
-use Rattle.sheet_run.proofs.TallyLaws.{totals-add, tally-read}
+use Rattle.lines.specs.Text.{space, lineFeed}
+use Rattle.lines.specs.Closing.{closingLine}
+use Rattle.tally.specs.Tally.{tallyOf}
+use Rattle.lines.specs.Line.{codeLine, digitsOf, ending}
+use Rattle.sheet_run.specs.Output.{wordLine, wordLines, linesOf, batchOutput, printed, outputOf}
+use Rattle.lines.specs.Shown.{cutAt, afterBlank, shown}
+use Rattle.sheet_run.specs.Closed.{ClosingShows, Closed}
+use Rattle.tally.specs.declared.tally.Tally.{Tally}
+use Rattle.tally.proofs.TallyLaws.{tally-adds, tally-read}
 use Rattle.sheet_run.proofs.BatchLaws.{decoded-tells}
-use Rattle.sheet_run.proofs.ShownLaws.{shown-ending, Without, without-append, cut-piece, cut-last, after-blank}
-use Rattle.sheet_run.proofs.ShownLaws.{digits-without, decimal-long, decimal-without, lacks, lacks-without}
+use Rattle.lines.proofs.ShownLaws.{shown-ending, Without, without-append, cut-piece, after-blank}
+use Rattle.lines.proofs.LineMeaning.{line-first, codeText, code-text, code-without, digits-of-without, ending-without}
+use Rattle.lines.proofs.LineMeaning.{closingText, closing-text, closing-without, refused-begins, closing-says}
 
 -- ---- the lines of an output, each without its line feed
-
-line-first : (line text rest : List ℕ) → line ≡ text ++ lineFeed ∷ [] → Without lineFeed text → cutAt lineFeed (line ++ rest) ≡ text ∷ cutAt lineFeed rest
-line-first line text rest e h =
-    ap (λ (l : List ℕ). cutAt lineFeed (l ++ rest)) e ∙ ap (cutAt lineFeed) (append-assoc text (lineFeed ∷ []) rest) ∙ cut-piece lineFeed text rest h
-
-abbrev codeText : ℕ → ℕ → ℕ → List ℕ
-codeText n k d = decimal n ++ (space ∷ (decimal k ++ (space ∷ (decimal d ++ (space ∷ decimal ((d - 1) / 2))))))
-
-code-text : (n k d : ℕ) → codeLine n k d ≡ codeText n k d ++ lineFeed ∷ []
-unfolding codeLine
-code-text n k d = simp append-assoc
-
-decimal-then : (x : ℕ) (rest : List ℕ) → Without lineFeed rest → Without lineFeed (decimal x ++ rest)
-decimal-then x rest h = without-append lineFeed (decimal x) rest (decimal-without lineFeed (omega arith) x) h
-
-code-without : (n k d : ℕ) → Without lineFeed (codeText n k d)
-code-without n k d =
-    decimal-then n _ (
-      λ e. omega arith,
-      decimal-then k _ (
-        λ e. omega arith,
-        decimal-then d _ (
-          λ e. omega arith,
-          decimal-without lineFeed (omega arith) ((d - 1) / 2),
-        ),
-      ),
-    )
 
 abbrev wordText : ℕ → ℕ → Outcome → List ℕ
 wordText n w o = digitsOf n (wordIn o w) ++ (space ∷ ending o)
@@ -71,40 +44,10 @@ word-text : (n w : ℕ) (o : Outcome) → wordLine n w o ≡ wordText n w o ++ l
 unfolding wordLine
 word-text n w o = simp append-assoc
 
-digits-of-without : (x : ℕ) → x < 48 → (n w : ℕ) → Without x (digitsOf n w)
-unfolding digitsOf
-digits-of-without x h n w = digits-without x h (bit w) n
-
-ending-without : (o : Outcome) → Without lineFeed (ending o)
-ending-without (Clean c) = decimal-without lineFeed (omega arith) 0
-ending-without (Mended c d) = decimal-without lineFeed (omega arith) d
-ending-without Far = lacks-without lineFeed (written "far") refl
-
 word-without : (n w : ℕ) (o : Outcome) → Without lineFeed (wordText n w o)
 word-without n w o =
     without-append lineFeed (digitsOf n (wordIn o w)) (space ∷ ending o) (digits-of-without lineFeed (omega arith) n (wordIn o w))
     (λ e. omega arith, ending-without o)
-
-abbrev closingText : Tally → List ℕ
-closingText t =
-    written "clean " ++ (decimal (t .clean) ++ (written " mended " ++ (decimal (t .mended) ++ (written " far " ++ (decimal (t .far)
-    ++ (written " places " ++ decimal (t .places)))))))
-
-closing-text : (t : Tally) → closingLine t ≡ closingText t ++ lineFeed ∷ []
-unfolding closingLine
-closing-text t = simp append-assoc
-
-closing-without : (t : Tally) → Without lineFeed (closingText t)
-closing-without t =
-    let p = written " places " ++ decimal (t .places) in
-    let f = written " far " ++ (decimal (t .far) ++ p) in
-    let m = written " mended " ++ (decimal (t .mended) ++ f) in
-    named (written "clean ") (t .clean) m refl (named (written " mended ") (t .mended) f refl (named (written " far ") (t .far) p refl
-    (without-append lineFeed (written " places ") (decimal (t .places)) (lacks-without lineFeed (written " places ") refl)
-    (decimal-without lineFeed (omega arith) (t .places)))))
-  where
-    named : (name : List ℕ) (x : ℕ) (rest : List ℕ) → lacks lineFeed name ≡ true → Without lineFeed rest → Without lineFeed (name ++ (decimal x ++ rest))
-    named name x rest e h = without-append lineFeed name (decimal x ++ rest) (lacks-without lineFeed name e) (decimal-then x rest h)
 
 lines-of-words : (n : ℕ) (outcome : ℕ → Outcome) (words rest : List ℕ)
     → cutAt lineFeed (wordLines n outcome words ++ rest) ≡ map (λ w. wordText n w (outcome w)) words ++ cutAt lineFeed rest
@@ -129,10 +72,6 @@ lines-of-batch n k d outcome words t =
 
 -- ---- the closing line
 
-refused-begins : (number value : ℕ) → take 7 (refusedLine number value) ≡ written "refused"
-unfolding refusedLine
-refused-begins number value = refl
-
 -- the tally of what the lines of the words show is the tally of the outcomes
 closing-shows : (n k : ℕ) (rows : List ℕ) → Accepted n k rows → (reading : Reading) (words : List ℕ)
     → tallyOf (map (λ line. shown (afterBlank line)) (map (λ w. wordText n w (decodedAs n rows reading w)) words))
@@ -142,30 +81,6 @@ closing-shows n k rows A reading words =
     (λ w. let o = decodedAs n rows reading w in
     ap shown (after-blank (digitsOf n (wordIn o w)) (ending o) (digits-of-without space (omega arith) n (wordIn o w)))
     ∙ shown-ending o (decoded-tells n k rows A reading w)) words
-
--- the last line cut at its blanks
-closing-parts : (t : Tally)
-    → cutAt space (closingText t)
-    ≡ written "clean" ∷ decimal (t .clean) ∷ written "mended" ∷ decimal (t .mended) ∷ written "far" ∷ decimal (t .far)
-    ∷ written "places" ∷ decimal (t .places) ∷ []
-closing-parts t =
-    rw (
-      piece (t .clean) (written "mended " ++ (decimal (t .mended) ++ (written " far " ++ (decimal (t .far) ++ (written " places " ++ decimal (t .places)))))),
-      piece (t .mended) (written "far " ++ (decimal (t .far) ++ (written " places " ++ decimal (t .places)))),
-      piece (t .far) (written "places " ++ decimal (t .places)),
-      rest (t .places),
-    )
-  where
-    piece : (x : ℕ) (rest : List ℕ) → cutAt space (decimal x ++ space ∷ rest) ≡ decimal x ∷ cutAt space rest
-    piece x rest = cut-piece space (decimal x) rest (decimal-without space (omega arith) x)
-
-    rest : (x : ℕ) → cutAt space (decimal x) ≡ decimal x ∷ []
-    rest x = cut-last space (decimal x) (decimal-long x) (decimal-without space (omega arith) x)
-
--- clean, mended and far words add to the lines
-closing-adds : (os : List Outcome) → let t = tallyOf os in t .clean + t .mended + t .far ≡ length os
-unfolding tallyOf
-closing-adds os = totals-add os
 
 module _ (sheet : List ℕ) (s : Sheet) (e : sheetOf sheet ≡ reading.Read s) where
   abbrev rowsOf : List ℕ
@@ -186,8 +101,8 @@ module _ (sheet : List ℕ) (s : Sheet) (e : sheetOf sheet ≡ reading.Read s) w
         words = texts;
         last = closingText t;
         lines = lines-of-batch (s .n) (s .k) (dmin rowsOf) outcome received t;
-        says = rw (closing-shows (s .n) (s .k) rowsOf A (s .reading) received) (closing-parts t);
-        adds = closing-adds (map (λ line. shown (afterBlank line)) texts) ∙ length-map texts (λ line. shown (afterBlank line));
+        says = rw (closing-shows (s .n) (s .k) rowsOf A (s .reading) received) (closing-says t);
+        adds = tally-adds (map (λ line. shown (afterBlank line)) texts) ∙ length-map texts (λ line. shown (afterBlank line));
         received = λ h f.
             let q : s ≡ h = cc in
             length-map received (λ w. wordText (s .n) w (outcome w)) ∙ length-words sheet (s .words .at) (s .words .count)

@@ -17,11 +17,13 @@ use Rattle.decoder.proofs.CauseLaws.{refused-number, decode-passes}
 use Rattle.sheet.specs.Words.{wordsIn}
 use Rattle.sheet.specs.declared.answer.SheetAnswer.the-variants as reading
 use Rattle.sheet.proofs.SpanLaws.{words-inside}
-use Rattle.sheet_run.specs.Decimal.{decimal}
-use Rattle.sheet_run.specs.Text.{written, space}
-use Rattle.sheet_run.specs.Output.{refusedLine, codeLine, linesOf, batchOutput, outputOf}
-use Rattle.sheet_run.specs.Shown.{Begins, EveryWordShown}
-use Rattle.sheet_run.proofs.DecimalLaws.{decimal-small}
+use Rattle.lines.specs.Decimal.{decimal}
+use Rattle.lines.specs.Text.{written, space}
+use Rattle.sheet_run.specs.Output.{linesOf, batchOutput, outputOf}
+use Rattle.lines.specs.Line.{refusedLine, codeLine}
+use Rattle.lines.specs.Shown.{Begins}
+use Rattle.sheet_run.specs.Closed.{EveryWordShown}
+use Rattle.lines.proofs.DecimalLaws.{decimal-small}
 
 begins-at : (text out : List ℕ) (i : ℕ) → Begins text out → i < length text → getD out i 0 ≡ getD text i 0
 begins-at text out i b h = sym (getD-take (length text) out i 0 h) ∙ ap (λ (l : List ℕ). getD l i 0) b

@@ -9,10 +9,11 @@ use borrow.Author.Tests.{le-leb, lt-leb}
 use lib.Dec.{leb}
 use lib.ListN.{length, getD, take, drop, length-append}
 use lib.Seq.{take-at}
-use Rattle.sheet_run.specs.Inner.Appended.{Appends}
+use Rattle.lines.specs.Appended.{Appends}
 use Rattle.sheet.specs.Sheet.{sheetOf}
 use Rattle.sheet_run.specs.Output.{printed, outputOf}
-use Rattle.sheet_run.specs.Run.{maxOutput, Ran}
+use Rattle.sheet_run.specs.Run.{Ran}
+use Rattle.lines.specs.Put.{maxOutput}
 use Rattle.sheet.specs.declared.answer.SheetAnswer.{SheetAnswer}
 use Rattle.sheet_run.proofs.RefusalMeaning.{every-word-shown}
 use Rattle.sheet_run.proofs.ClosingMeaning.{output-closed}

@@ -1,8 +1,6 @@
 -- 01, "The code sheet", and 02, No. 1: what the program prints for the bytes of a sheet.
 use mathlib.Core.List.{List, [], _∷_, _++_, map}
-use Prim.Native.Nat.{ℕ, _-_, _/_, _^_}
-use Rattle.coding.specs.Lists.{tabulate}
-use Rattle.coding.specs.Word.{bit}
+use Prim.Native.Nat.{ℕ, _^_}
 use Rattle.coding.specs.Weight.{dmin}
 use Rattle.words.specs.Limits.{maxWords, maxChecks}
 use Rattle.answers.specs.Refusal.{numberOf, valueOf}
@@ -12,35 +10,17 @@ use Rattle.outcomes.specs.Outcome.{wordIn, decodedAs}
 use Rattle.decoder.specs.Causes.{decodeAnswer}
 use Rattle.outcomes.specs.declared.ending.Reading.{Reading}
 use Rattle.outcomes.specs.declared.ending.Outcome.{Outcome}
-use Rattle.outcomes.specs.declared.ending.Outcome.the-variants.{Clean, Mended, Far}
 use Rattle.sheet.specs.Fault as fault
 use Rattle.sheet.specs.Sheet.{sheetOf}
 use Rattle.sheet.specs.Words.{wordsIn}
-use Rattle.sheet_run.specs.Decimal.{digit, decimal}
-use Rattle.sheet_run.specs.Text.{written, space, lineFeed}
-use Rattle.sheet_run.specs.Closing.{tallyOf, closingLine}
+use Rattle.lines.specs.Text.{space, lineFeed}
+use Rattle.lines.specs.Line.{refusedLine, codeLine, digitsOf, ending}
+use Rattle.lines.specs.Closing.{closingLine}
+use Rattle.tally.specs.Tally.{tallyOf}
 use Rattle.sheet.specs.declared.answer.SheetAnswer.{SheetAnswer}
 use Rattle.sheet.specs.declared.answer.SheetAnswer.the-variants as reading
 
--- ---- lines
-
--- "refused", the number and the value beside it
-unfoldable pub refusedLine : ℕ → ℕ → List ℕ
-refusedLine number value = written "refused " ++ decimal number ++ space ∷ decimal value ++ lineFeed ∷ []
-
--- "n k dmin t" with t = (dmin - 1) / 2 rounded down
-unfoldable pub codeLine : ℕ → ℕ → ℕ → List ℕ
-codeLine n k d = decimal n ++ space ∷ decimal k ++ space ∷ decimal d ++ space ∷ decimal ((d - 1) / 2) ++ lineFeed ∷ []
-
--- the n digits of a word, place 0 leftmost
-unfoldable pub digitsOf : ℕ → ℕ → List ℕ
-digitsOf n w = tabulate (λ i. digit (bit w i)) n
-
--- how a word ended: the count, or "far"
-abbrev pub ending : Outcome → List ℕ
-ending (Clean c) = decimal 0
-ending (Mended c count) = decimal count
-ending Far = written "far"
+-- ---- the lines of the words
 
 -- the line of a received word: the digits of the codeword and the count, or the received digits and "far"
 unfoldable pub wordLine : ℕ → ℕ → Outcome → List ℕ

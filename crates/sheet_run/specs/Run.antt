@@ -5,12 +5,9 @@ use mathlib.Core.Bool.{cond}
 use Prim.Native.Nat.{ℕ, _≤_}
 use lib.Dec.{leb}
 use lib.ListN.{length, take, drop}
+use Rattle.lines.specs.Put.{maxOutput}
 use Rattle.sheet_run.specs.Output.{outputOf}
-use Rattle.sheet_run.specs.Shown.{Closed, EveryWordShown}
-
--- room for the longest output, at n = 32 and 512 words too
-abbrev pub maxOutput : ℕ
-maxOutput = 20480
+use Rattle.sheet_run.specs.Closed.{Closed, EveryWordShown}
 
 -- where the list has room, its first r slots are the output and the others are as they were; else all are, and r is 0. The last line of an
 -- output that is no refusal says what its word lines show, and none is a refusal under 3 or 7 where n is 32

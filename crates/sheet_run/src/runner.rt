@@ -1,26 +1,26 @@
 // The run: the bytes of a sheet to the bytes printed.
+use answers::Answer;
+use answers::Refusal;
 use crate::load::load;
-use crate::print::put_batch;
-use crate::print::put_refusal;
 use decoder::decode_measured;
+use lines::MAX_OUTPUT;
+use lines::put_batch;
+use lines::put_refusal;
 use outcomes::Reading;
 use sheet::Sheet;
 use sheet::SheetAnswer;
 use sheet::number;
 use sheet::read;
 use sheet::value;
-use answers::Answer;
-use answers::Refusal;
 use words::limits::MAX_WORDS;
 ghost use Prim.Native.Nat.{_+_, _*_, _≤_};
 ghost use lib.ListN.{length};
 ghost use Rattle.answers.specs.Refusal.{numberOf, valueOf};
-ghost use Rattle.sheet_run.specs.Inner.Appended.{Appends};
-ghost use Rattle.sheet_run.specs.Output.{refusedLine, batchOutput, printed};
-ghost use Rattle.sheet_run.specs.Run.{maxOutput, Ran};
-
-// Room for the longest output.
-pub const MAX_OUTPUT: usize = 20480;
+ghost use Rattle.lines.specs.Appended.{Appends};
+ghost use Rattle.sheet_run.specs.Output.{batchOutput, printed};
+ghost use Rattle.lines.specs.Line.{refusedLine};
+ghost use Rattle.sheet_run.specs.Run.{Ran};
+ghost use Rattle.lines.specs.Put.{maxOutput};
 
 // More rows and words than any sheet is accepted with: a longer list is refused under the same cause.
 const ROWS_READ: usize = 33;

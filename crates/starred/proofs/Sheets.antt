@@ -19,10 +19,12 @@ use Rattle.sheet.specs.Sheet.{sheetFrom, sheetOf}
 use Rattle.sheet.specs.Words.{wordAt, wordsAt}
 use Rattle.sheet.specs.Written.{WrittenSheet, sheetBytes}
 use Rattle.sheet.proofs.WrittenLaws.{read-back}
-use Rattle.sheet_run.specs.Decimal.{decimal}
-use Rattle.sheet_run.specs.Text.{written}
-use Rattle.sheet_run.specs.Closing.{tallyOf, closingLine}
-use Rattle.sheet_run.specs.Output.{refusedLine, codeLine, digitsOf, wordLine, wordLines, batchOutput, outputOf}
+use Rattle.lines.specs.Decimal.{decimal}
+use Rattle.lines.specs.Text.{written}
+use Rattle.lines.specs.Closing.{closingLine}
+use Rattle.tally.specs.Tally.{tallyOf}
+use Rattle.sheet_run.specs.Output.{wordLine, wordLines, batchOutput, outputOf}
+use Rattle.lines.specs.Line.{refusedLine, codeLine, digitsOf}
 use Rattle.starred.specs.Sheets.{full, lines, Sheets}
 
 -- a written sheet prints what its batch does: no word has to be computed from the bytes

@@ -4,7 +4,7 @@ use mathlib.Core.List.{List, [], _∷_, _++_}
 use Prim.Native.Nat.{ℕ, zero, suc, _/_, _%_}
 use Rattle.coding.specs.Lists.{zeros}
 use Rattle.sheet.specs.Words.{wordAt}
-use Rattle.sheet_run.specs.Text.{written}
+use Rattle.lines.specs.Text.{written}
 use Rattle.sheet_run.specs.Output.{outputOf}
 
 -- m bytes by their hexadecimal digits, the first leftmost: 01's 01 00 01 06 is `bytes 4 0x01000106`

@@ -1,4 +1,5 @@
 // The sums of some rows by message, in a table; and the row sums of many words from such tables, eight rows at a time.
+use words::lists::entry_at;
 use words::lists::fill;
 use words::lists::smaller;
 ghost use mathlib.Core.Path.{_≡_};
@@ -15,13 +16,6 @@ ghost use Rattle.sums.specs.Inner.Doubled.{Doubled};
 const TABLE_ROWS: usize = 8;
 
 const TABLE: usize = 256;
-
-// The row, or the zero word where there is none.
-fn row_at(rows: &[u32], i: usize) -> u32
-    ensures { λ r. ⌜ r ≡ getD (now (rows .entry)) i 0 ⌝ }
-{
-    if i < rows.len() { rows[i] } else { 0 }
-}
 
 // So many entries from half on become those from 0 on, each with the row added.
 fn double(table: &mut [u32], half: usize, count: usize, row: u32)
@@ -47,7 +41,7 @@ pub fn fill_sums(rows: &[u32], table: &mut [u32])
     let mut i: usize = 0;
     while half < table.len() {
         let count = smaller(half, table.len() - half);
-        double(table, half, count, row_at(rows, i));
+        double(table, half, count, entry_at(rows, i));
         half += count;
         i += 1;
     }

@@ -6,7 +6,6 @@ use hsiao::Word;
 use hsiao::decode;
 use hsiao::decoding::Decoding;
 use hsiao::encode;
-use hsiao::widths;
 
 // The width, 0 for the calls of the (72,64) code; the check places, which come first; all places; and 2 to the number of check places.
 struct Code {
@@ -43,7 +42,7 @@ fn check_of(code: Code, data: u64) -> u8 {
     if code.width == 0 {
         return encode(data);
     }
-    let e = widths::encode(code.width, data);
+    let e = hsiao::widths::encode(code.width, data);
     e.check
 }
 
@@ -51,7 +50,7 @@ fn decoded(code: Code, w: Word) -> Decoding {
     if code.width == 0 {
         return decode(w);
     }
-    let d = widths::decode(code.width, w);
+    let d = hsiao::widths::decode(code.width, w);
     let word = d.word;
     let count = d.count;
     Decoding { word, count }

@@ -7,10 +7,9 @@ use crate::print::answer;
 use crate::print::item;
 use crate::print::long;
 use hsiao::Word;
-use hsiao::widths;
 
 fn encoded(width: u32, data: u64) {
-    let e = widths::encode(width, data);
+    let e = hsiao::widths::encode(width, data);
     let a = e.answer;
     answer(a);
     item(e.check as u32);
@@ -18,13 +17,13 @@ fn encoded(width: u32, data: u64) {
 
 // The answer with the word and its count, and what is read back from the word as received.
 fn decoded(width: u32, w: Word) {
-    let d = widths::decode(width, w);
+    let d = hsiao::widths::decode(width, w);
     let a = d.answer;
     let c = d.word;
     answer(a);
     word(c);
     item(d.count as u32);
-    let r = widths::message(width, w);
+    let r = hsiao::widths::message(width, w);
     let b = r.answer;
     answer(b);
     long(r.data);

@@ -2,7 +2,7 @@
 // first); each title is printed, and after it what the run gives for its sheet.
 use libc::STDIN_FILENO;
 use libc::STDOUT_FILENO;
-use sheet_run::MAX_OUTPUT;
+use lines::MAX_OUTPUT;
 use sheet_run::run;
 ghost use Prim.Native.Nat.{_<_};
 ghost use Rattle.io.specs.Counts.{Counts};

@@ -20,9 +20,9 @@ use Rattle.coding.proofs.SumLaws.{sum-same}
 use Rattle.coding.proofs.DualLaws.{macwilliams}
 use Rattle.words.specs.Accepted.{Accepted}
 use Rattle.words.proofs.CodeLaws.{frees-are}
-use Rattle.weights.specs.Inner.Walked.{Walked}
+use Rattle.walk.specs.Walked.{Walked}
 use Rattle.weights.specs.Inner.Overlap.{partSum, slots}
-use Rattle.weights.specs.declared.walk.Walk.{Walk}
+use Rattle.walk.specs.declared.walk.Walk.{Walk}
 use Rattle.weights.proofs.WeightSlotLaws.{slots-long, slots-at, slots-same}
 use Rattle.weights.proofs.OverlapSumLaws.{part-end}
 

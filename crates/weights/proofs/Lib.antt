@@ -1,7 +1,4 @@
-pub mod BlockLaws  -- one block of the walk
-pub mod WalkLaws  -- the walk, block by block
-pub mod DescribeLaws  -- what a finished walk tells
-pub mod LeastSumLaws  -- the least weight by rising number of rows
+pub mod DescribeLaws  -- what Describe answers
 pub mod WeightSlotLaws  -- lists with an entry for each weight
 pub mod OverlapSumLaws  -- sums of overlaps, weight by weight
 pub mod DualCountLaws  -- the weight counts from a walk over the sums of check rows

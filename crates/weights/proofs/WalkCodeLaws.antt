@@ -21,13 +21,14 @@ use Rattle.coding.proofs.CountLaws.{count-found}
 use Rattle.coding.proofs.WeightCountLaws.{weightCount-messages}
 use Rattle.words.specs.Accepted.{Accepted}
 use Rattle.words.proofs.CodeLaws.{rows-are}
-use Rattle.weights.specs.Inner.Walked.{leastOf, SmallestMet, Walked}
-use Rattle.weights.specs.Inner.LeastSum.{SmallestSum, ReducedMatrix}
+use Rattle.walk.specs.Walked.{leastOf, SmallestMet, Walked}
+use Rattle.distance.specs.Inner.LeastSum.{ReducedMatrix}
+use Rattle.distance.specs.SmallestSum.{FewWeigh, SmallestSum}
 use Rattle.weights.specs.Inner.Overlap.{slots}
-use Rattle.weights.specs.declared.walk.Walk.{Walk}
-use Rattle.weights.proofs.BlockLaws.{some-at}
+use Rattle.walk.specs.declared.walk.Walk.{Walk}
+use Rattle.walk.proofs.BlockLaws.{some-at}
 use Rattle.weights.proofs.WeightSlotLaws.{slots-long, slots-at}
-use Rattle.weights.proofs.LeastSumLaws.{reduced-matrix}
+use Rattle.distance.proofs.LeastSumLaws.{reduced-matrix, reduced-few}
 
 module _ (n k : ℕ) (rows : List ℕ) (A : Accepted n k rows) where
   form : ReducedForm rows (reducedRows n rows) (pivots n rows)
@@ -37,27 +38,26 @@ module _ (n k : ℕ) (rows : List ℕ) (A : Accepted n k rows) where
   matrix = reduced-matrix n k rows A (reducedRows n rows) (pivots n rows) form (rows-are n k rows A)
 
   -- the smallest sum of reduced rows that weighs l is the smallest such codeword, where there is one
-  smallest-met : (l x u : ℕ) → u < 2 ^ length rows → weight (encode rows u) ≡ l → SmallestSum (reducedRows n rows) l x
+  smallest-met : (l x u : ℕ) → 1 ≤ l → u < 2 ^ length rows → weight (encode rows u) ≡ l → SmallestSum (reducedRows n rows) l x
       → SmallestMet rows (2 ^ length rows) l x
-  smallest-met l x u h e S = ends (S .one)
+  smallest-met l x u some h e S = ends (S .one)
     where
       below : (v : ℕ) → v < 2 ^ length rows → weight (encode rows v) ≡ l → x ≤ encode rows v
       below v g q =
           let (t, b, s) = form .same-span (encode rows v) .0 (v, g, refl) in
-          rw s (S .each t b (ap weight (sym s) ∙ q))
+          rw s (S .each t (reduced-few (reducedRows n rows) l t matrix some b (ap weight (sym s) ∙ q)))
 
       small : encode rows u < 2 ^ 32
       small = lt-of-lt-of-le (encode-lt n rows (A .inside) u) (pow-mono {i = n} {j = 32} (A .range .places .1))
 
-      ends : (x ≡ 2 ^ 32 - 1)
-          ⊎ ((v : ℕ) × (v < 2 ^ length (reducedRows n rows)) × (weight (encode (reducedRows n rows) v) ≡ l) × (x ≡ encode (reducedRows n rows) v))
+      ends : (x ≡ 2 ^ 32 - 1) ⊎ ((v : ℕ) × FewWeigh (reducedRows n rows) l v × (x ≡ encode (reducedRows n rows) v))
           → SmallestMet rows (2 ^ length rows) l x
       ends (inl q) =
           let s : x ≡ encode rows u = omega (arith, below u h e, small) in
           record { met = (u, h, s); weighs = ap weight s ∙ e; smallest = below }
-      ends (inr (v, b, w, q)) =
-          let (t, g, s) = form .same-span (encode (reducedRows n rows) v) .1 (v, b, refl) in
-          record { met = (t, g, q ∙ s); weighs = ap weight q ∙ w; smallest = below }
+      ends (inr (v, f, q)) =
+          let (t, g, s) = form .same-span (encode (reducedRows n rows) v) .1 (v, f .message, refl) in
+          record { met = (t, g, q ∙ s); weighs = ap weight q ∙ f .weighs; smallest = below }
 
   pub code-walked : (w : Walk) → w .counts ≡ slots (weightCount n rows) → w .least ≡ leastOf (w .counts)
       → SmallestSum (reducedRows n rows) (w .least) (w .lightest) → Walked rows (2 ^ length rows) w
@@ -72,4 +72,4 @@ module _ (n k : ℕ) (rows : List ℕ) (A : Accepted n k rows) where
           let some = some-at (w .counts) (rw l at h) in
           let (u, b, t) = count-found (λ u. eqb (weight (encode rows u)) (w .least)) (2 ^ length rows)
           (omega (arith, at (w .least) h, ap (λ (x : ℕ). getD (w .counts) x 0) l, some)) in
-          smallest-met (w .least) (w .lightest) u b (eqb-true (weight (encode rows u)) (w .least) t) S
+          smallest-met (w .least) (w .lightest) u (omega (arith, l)) b (eqb-true (weight (encode rows u)) (w .least) t) S

@@ -1,3 +1,1 @@
-pub mod Walked  -- what a walk has found
-pub mod LeastSum  -- the least weight of sums of so many rows
-pub mod Overlap  -- weight counts from those of the sums of check rows
+pub mod Overlap  -- the weight counts from those of the sums of the check rows

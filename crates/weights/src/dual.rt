@@ -1,9 +1,9 @@
 // The weight counts of a code from those of the sums of its check rows, by the MacWilliams identity: where a code has fewer check rows than
 // rows, these sums are fewer than its codewords.
-use crate::smallest::smallest_weighing;
-use crate::walk::Walk;
-use crate::walk::least_of;
-use crate::walk::walk_all;
+use distance::smallest_weighing;
+use walk::Walk;
+use walk::least_of;
+use walk::walk_all;
 use words::limits::WEIGHT_SLOTS;
 ghost use mathlib.Core.Path.{_≡_};
 ghost use mathlib.Core.List.{List};
@@ -13,7 +13,7 @@ ghost use Rattle.coding.specs.Check.{checks};
 ghost use Rattle.coding.specs.Weight.{weightCount};
 ghost use Rattle.words.specs.Limits.{weightSlots, width};
 ghost use Rattle.words.specs.Accepted.{Accepted};
-ghost use Rattle.weights.specs.Inner.Walked.{Walked};
+ghost use Rattle.walk.specs.Walked.{Walked};
 ghost use Rattle.weights.specs.Inner.Overlap.{earlier, partSum, slots, Small, ChecksOf, CodeParts};
 
 // With so few rows the walk over all codewords takes less than the way by the check rows.

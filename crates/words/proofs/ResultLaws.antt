@@ -1,13 +1,13 @@
 -- Laws of lists with one result for each word, in the first slots of a lent list. Assumes nothing.
 use mathlib.Core.Path.{_≡_, refl, sym, ap, ap₂, _∙_}
-use mathlib.Core.List.{List, _++_, map}
+use mathlib.Core.List.{List, _++_, map, append-nil}
 use mathlib.Core.Bool.{not}
 use Prim.Native.Nat.{ℕ, zero, suc, _^_, _≤_, _<_, min}
 use native.Mathlib.Nat.{suc-ne-zero}
 use native.Mathlib.Omega.{arith}
 use lib.Dec.{eqb, ltb}
 use lib.ListN.{length, getD, take, drop, length-map}
-use lib.Seq.{take-all, take-at, drop-at}
+use lib.Seq.{take-all, drop-length, take-at, drop-at}
 use borrow.Author.Tests.{le-ltb, ne-eqb}
 use Rattle.coding.specs.Lists.{first}
 use Rattle.coding.proofs.ListLaws.{getD-map, take-most, drop-most}
@@ -25,7 +25,14 @@ pub enough-slots : (f : ℕ → ℕ) (words out : List ℕ) → length words ≤
     → map f (take (length out) words) ++ drop (length words) out ≡ map f words ++ drop (length words) out
 enough-slots f words out h = ap (λ (l : List ℕ). map f l ++ drop (length words) out) (take-all (length out) words h)
 
--- and so they stand in the first slots
+-- and nothing else stands in a list of as many
+pub all-slots : (f : ℕ → ℕ) (words out : List ℕ) → length out ≡ length words
+    → map f (take (length out) words) ++ drop (length words) out ≡ map f words
+all-slots f words out h =
+    enough-slots f words out (omega arith) ∙ ap (λ (l : List ℕ). map f words ++ l) (ap (λ (m : ℕ). drop m out) (sym h) ∙ drop-length out)
+    ∙ append-nil (map f words)
+
+-- they stand in the first slots
 module _ (f : ℕ → ℕ) (words out results : List ℕ) (h : length words ≤ length out) (e : results ≡ map f (take (length out) words) ++ drop (length words) out) where
   all-are : results ≡ map f words ++ drop (length words) out
   all-are = e ∙ enough-slots f words out h

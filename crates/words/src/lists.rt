@@ -5,7 +5,7 @@ use crate::limits::MAX_WORDS;
 use crate::shape::first_outside;
 ghost use mathlib.Core.Path.{_≡_};
 ghost use Prim.Native.Nat.{min};
-ghost use lib.ListN.{length, replicate};
+ghost use lib.ListN.{length, getD, replicate};
 ghost use Rattle.words.specs.Lists.{manyAnswer, insideAnswer, roomAnswer, listAnswer};
 
 // Cause 6: more than 512 words.
@@ -59,6 +59,13 @@ pub fn smaller(a: usize, b: usize) -> usize
     ensures { λ r. ⌜ r ≡ min a b ⌝ }
 {
     if a < b { a } else { b }
+}
+
+// The entry, or 0 where there is none.
+pub fn entry_at(list: &[u32], i: usize) -> u32
+    ensures { λ r. ⌜ r ≡ getD (now (list .entry)) i 0 ⌝ }
+{
+    if i < list.len() { list[i] } else { 0 }
 }
 
 // Every entry becomes x.

@@ -1,4 +1,4 @@
--- `relaymarten::hsiao_widths::relay_hsiao_width_encode`: what the operation of a width ensures, told as a number and a value. Assumes nothing.
+-- `relaymarten::hsiao::widths::relay_hsiao_width_encode`: what the operation of a width ensures, told as a number and a value. Assumes nothing.
 use borrow.Author.Needs.{needs}
 use Rattle.relaymarten.proofs.ToldLaws.{told}
 use Rattle.relaymarten.proofs.hsiao_widths.relay_hsiao_width_encode.Statement.{statement}

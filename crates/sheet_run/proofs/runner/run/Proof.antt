@@ -3,10 +3,11 @@ use mathlib.Core.Path.{_≡_, sym, ap₂, _∙_}
 use mathlib.Core.List.{List}
 use Prim.Native.Nat.{ℕ}
 use Rattle.sheet.specs.declared.answer.SheetAnswer.{SheetAnswer}
-use Rattle.sheet_run.specs.Inner.Appended.{Appends}
-use Rattle.sheet_run.specs.Output.{refusedLine, printed}
+use Rattle.lines.specs.Appended.{Appends}
+use Rattle.sheet_run.specs.Output.{printed}
+use Rattle.lines.specs.Line.{refusedLine}
 use Rattle.sheet_run.specs.Run.{Ran}
-use Rattle.sheet_run.proofs.AppendLaws.{appends-as}
+use Rattle.lines.proofs.AppendLaws.{appends-as}
 use Rattle.sheet_run.proofs.RunLaws.{ran, ran-not}
 use borrow.Author.Needs.{needs}
 use Rattle.sheet_run.proofs.runner.run.Statement.{statement}
@@ -40,7 +41,7 @@ returns-3 c =
     let p = c .before .before in
     let a = refused p in
     finished (a .before .before) (a .a2 .given .1)
-    (appends-as (p .put-refusal .ensures) _ (ap₂ refusedLine (p .before .before .number .ensures) (p .before .value .ensures)))
+    (appends-as (p .put-refusal .ensures .puts (search needs)) _ (ap₂ refusedLine (p .before .before .number .ensures) (p .before .value .ensures)))
 
 pub run-spec : {M : Type 1} → statement M
 run-spec =

@@ -1,8 +1,8 @@
 -- `sheet_run::runner::run_batch`: the refusal, or the lines by the slots that Decode leaves. Assumes nothing.
 use mathlib.Core.Path.{sym, _∙_}
 use native.Mathlib.Omega.{arith}
-use Rattle.sheet_run.proofs.AppendLaws.{appends-as}
-use Rattle.sheet_run.proofs.BatchLaws.{refused-output, done-output, few-words, few-places, apart}
+use Rattle.lines.proofs.AppendLaws.{appends-as}
+use Rattle.sheet_run.proofs.BatchLaws.{refused-output, done-output, few-words, few-places}
 use Rattle.sheet_run.proofs.BatchLaws.{codewords-length, codewords-room, counts-length, counts-room}
 use borrow.Author.Needs.{needs}
 use Rattle.sheet_run.proofs.runner.run_batch.Statement.{statement}
@@ -15,6 +15,9 @@ refused c = c .before .before .before .before .before
 abbrev decoded : tie.After-work2 → tie.After-decode-measured
 decoded c = c .before .before .before
 
+abbrev start : tie.After-decode-measured → tie.Start
+start c = c .before .before .before .before .before .before .before
+
 abbrev told : tie.After-counts3 → tie.After-enum-told
 told c = c .before .before .before
 
@@ -24,24 +27,19 @@ returns c =
     appends-as (c .before .before .put-cause .ensures) _
     (refused-output (decoded (a .before .before) .decode-measured .ensures .0) _ (a .a .given .1))
 
-put-batch-requires : tie.Need-put-batch-requires
-put-batch-requires c κs =
-    let t = told c in
-    let (D, e) = decoded (t .before .before) .decode-measured .ensures in
-    let d = t .enum-told .given .1 in (
-      few-places D d,
-      apart D d _ e,
-      omega (arith, codewords-length D d, few-words D d),
-      counts-length D d ∙ sym (codewords-length D d),
-      omega (arith, codewords-length D d, few-words D d),
-    )
-
 returns-2 : tie.Need-returns-2
 returns-2 c =
     let b = c .before .before in
     let t = told (b .before) in
     let (D, e) = decoded (t .before .before) .decode-measured .ensures in
-    appends-as (b .put-batch .ensures) _ (done-output D (t .enum-told .given .1) _ e)
+    let d = t .enum-told .given .1 in
+    appends-as
+    (b .put-batch .ensures .puts (record {
+      places = few-places D d;
+      each = counts-length D d ∙ sym (codewords-length D d);
+      few = omega (arith, codewords-length D d, few-words D d);
+      room = start (decoded (t .before .before)) .pre;
+    })) _ (done-output D d _ e)
 
 pub run-batch-spec : {M : Type 1} → statement M
 run-batch-spec =
@@ -52,4 +50,4 @@ run-batch-spec =
     (λ c. let t = c .before .before in sym (codewords-length (decoded (t .before .before) .decode-measured .ensures .0) (t .enum-told .given .1)))
     (λ c. let t = c .before .before in counts-room (decoded (t .before .before) .decode-measured .ensures .0) (t .enum-told .given .1))
     (λ c. let t = told c in sym (counts-length (decoded (t .before .before) .decode-measured .ensures .0) (t .enum-told .given .1)))
-    put-batch-requires (λ c. search needs) returns-2)
+    (λ c κs. search needs) (λ c. search needs) returns-2)

@@ -1,6 +1,6 @@
 -- `sheet_run::runner::run_sheet`: the lists are cut behind what a batch may have, which changes no answer. Assumes nothing.
 use lib.Dec.{lit<}
-use Rattle.sheet_run.proofs.AppendLaws.{appends-as}
+use Rattle.lines.proofs.AppendLaws.{appends-as}
 use Rattle.sheet_run.proofs.LoadLaws.{loaded-length}
 use Rattle.sheet_run.proofs.CutLaws.{cut-loaded}
 use borrow.Author.Needs.{needs}

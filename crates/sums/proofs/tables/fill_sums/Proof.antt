@@ -60,8 +60,8 @@ loop-again c =
     let l = d .before .before .before .before .before in
     let S = l .loop .inv .1 in (
       d .double .ensures .size ∙ l .loop .inv .0,
-      summed-step S (d .before .before .before .smaller .result) (d .before .row-at .result) (d .double .last .0)
-          (d .before .before .before .before .loop-test .taken) (d .before .before .before .smaller .ensures) (d .before .row-at .ensures)
+      summed-step S (d .before .before .before .smaller .result) (d .before .entry-at .result) (d .double .last .0)
+          (d .before .before .before .before .loop-test .taken) (d .before .before .before .smaller .ensures) (d .before .entry-at .ensures)
           (d .double .ensures),
     )
 

@@ -5,7 +5,9 @@ use Prim.Native.Nat.{ℕ, _-_, _/_, _≤_, _^_}
 use native.Mathlib.Omega.{arith}
 use lib.ListN.{length, getD}
 use Rattle.coding.specs.Check.{checks}
-use Rattle.weights.specs.Inner.Walked.{Walked}
+use borrow.Author.Needs.{needs}
+use Rattle.walk.specs.Walked.{Walked}
+use Rattle.walk.proofs.WalkedLaws.{walked-all}
 use Rattle.weights.specs.Inner.Overlap.{slots}
 use Rattle.weights.proofs.DualCountLaws.{checks-few, walk-few, quotient-fits, sizes-are, quotients-are}
 use Rattle.weights.proofs.dual.counts_by_checks.Statement.{statement}
@@ -17,13 +19,16 @@ few s = let C = s .pre in rw (C .are) (checks-few _ (C .k) (C .rows) (C .accepte
 -- the walk over the sums of the check rows
 walk : (w : tie.After-walk-all) (rows : List ℕ) → w .before .before .args .hs .now ≡ checks (w .before .before .args .n) rows
     → Walked (checks (w .before .before .args .n) rows) (2 ^ length (checks (w .before .before .args .n) rows)) (w .walk-all .result)
-walk w rows e = rw e at (w .walk-all .ensures)
+walk w rows e =
+    let W : Walked (w .before .before .args .hs .now) (2 ^ length (w .before .before .args .hs .now)) (w .walk-all .result)
+    = walked-all (omega (arith, few (w .before .before))) (w .walk-all .ensures) in
+    rw e at W
 
 overlap-counts-requires : tie.Need-overlap-counts-requires
 overlap-counts-requires c κs =
     let w = c .before .before in
     let C = w .before .before .pre in
-    (C .accepted .range .places .1, w .walk-all .ensures .size, walk-few _ (C .k) (C .rows) (C .accepted) (w .walk-all .result) (walk w (C .rows) (C .are)))
+    (C .accepted .range .places .1, (walk w (C .rows) (C .are)) .size, walk-few _ (C .k) (C .rows) (C .accepted) (w .walk-all .result) (walk w (C .rows) (C .are)))
 
 quotients-requires : tie.Need-quotients-requires
 quotients-requires c κs =
@@ -49,5 +54,5 @@ returns c k rows A e =
 pub counts-by-checks-spec : {M : Type 1} → statement M
 counts-by-checks-spec =
     tie.close
-    (tie.spec (λ c κs. omega (arith, few (c .before))) overlap-counts-requires
+    (tie.spec (λ c κs. search needs) overlap-counts-requires
     (λ c. record { fits = omega (arith, few (c .before .before .before .before .before .before .before .before .before)) }) quotients-requires returns)

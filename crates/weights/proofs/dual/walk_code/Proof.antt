@@ -1,14 +1,15 @@
 -- `weights::dual::walk_code`: the walk, or what it would find. Assumes nothing.
 use native.Mathlib.Omega.{arith}
 use borrow.Author.Needs.{needs}
-use Rattle.weights.proofs.WalkCodeLaws.{matrix, code-walked}
+use Rattle.walk.proofs.WalkedLaws.{walked-all}
+use Rattle.weights.proofs.WalkCodeLaws.{code-walked}
 use Rattle.weights.proofs.dual.walk_code.Statement.{statement}
 use Rattle.weights.proofs.dual.walk_code.Tie as tie
 
-smallest-weighing-requires : tie.Need-smallest-weighing-requires
-smallest-weighing-requires c κs =
-    let P = c .before .before .before .before .before .before .before .pre in
-    (rw (P .reduced-are) (matrix _ (P .k) _ (P .accepted)), omega (arith, c .least-of .ensures))
+returns : tie.Need-returns
+returns c =
+    let P = c .before .before .before .before .before .pre in
+    walked-all (omega (arith, P .accepted .range .rows, P .accepted .count)) (c .walk-all .ensures)
 
 returns-2 : tie.Need-returns-2
 returns-2 c =
@@ -22,4 +23,4 @@ returns-2 c =
 pub walk-code-spec : {M : Type 1} → statement M
 walk-code-spec =
     tie.close
-    (tie.spec (λ c κs. search needs) (λ c. search needs) (λ c κs. search needs) (λ c. search needs) (λ c κs. search needs) smallest-weighing-requires returns-2)
+    (tie.spec (λ c κs. search needs) returns (λ c κs. search needs) (λ c. search needs) (λ c κs. search needs) (λ c κs. search needs) returns-2)

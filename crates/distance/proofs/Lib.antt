@@ -1,0 +1,1 @@
+pub mod LeastSumLaws  -- the least weight by rising number of rows

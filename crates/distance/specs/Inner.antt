@@ -1,0 +1,1 @@
+pub mod LeastSum  -- the search by rising number of rows

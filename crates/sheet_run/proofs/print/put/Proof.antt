@@ -1,8 +1,0 @@
--- `sheet_run::print::put`: one byte. Assumes nothing.
-use Rattle.sheet_run.proofs.AppendLaws.{appends-one}
-use borrow.Author.Needs.{needs}
-use Rattle.sheet_run.proofs.print.put.Statement.{statement}
-use Rattle.sheet_run.proofs.print.put.Tie as tie
-
-pub put-spec : {M : Type 1} → statement M
-put-spec = tie.close (tie.spec (λ c. search needs) (λ c. search needs) (λ c. search needs) (λ c. appends-one _ _ _ (c .pre)))

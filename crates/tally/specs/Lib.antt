@@ -1,0 +1,2 @@
+pub mod Tally  -- the outcomes added up
+pub mod Slots  -- the outcomes that slots of the counts tell

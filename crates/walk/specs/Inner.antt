@@ -1,0 +1,1 @@
+pub mod Block  -- one block of the walk

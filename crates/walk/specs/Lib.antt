@@ -1,0 +1,2 @@
+pub mod Walked  -- what the walk has found
+pub mod Inner  -- for private functions
