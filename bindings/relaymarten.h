@@ -1,6 +1,6 @@
 /* Relaymarten: proved encoding and decoding of binary linear block codes, for C and C++.
  *
- * Build:  rt staticlib relaymarten     gives target/staticlib/librelaymarten.a
+ * Build:  bindings/build               gives target/staticlib/librelaymarten.a
  * Link:   cc -I bindings program.c target/staticlib/librelaymarten.a
  *
  * A word of n places is the number whose bit i is place i. A generator matrix is a list of k rows, each a word of n places; message

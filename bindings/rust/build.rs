@@ -1,4 +1,4 @@
-//! Finds the static library that `rt staticlib relaymarten` writes: in the folder RELAYMARTEN_LIB_DIR (absolute, or from this
+//! Finds the static library that `bindings/build` writes: in the folder RELAYMARTEN_LIB_DIR (absolute, or from this
 //! crate's own folder), without it in `target/staticlib` of the repository.
 use std::env;
 use std::path::PathBuf;
@@ -24,7 +24,7 @@ fn main() {
     println!("cargo::rustc-link-search=native={}", folder.display());
     if !library.is_file() {
         println!(
-            "cargo::error={} is missing: run `rt staticlib relaymarten` at the root of the repository, \
+            "cargo::error={} is missing: run `bindings/build` at the root of the repository, \
              or set {FOLDER} to the folder of {LIBRARY}",
             library.display()
         );

@@ -51,7 +51,7 @@ def documents():
 
 # ---- README's command lines
 NOT_RUN = {'.ci/run': 'the gate', 'bench/run': 'the benchmarks', 'tools/check': 'this script'}
-FOR_ALL = ['rt staticlib relaymarten', 'bench/run --tests']       # the first lines of the blocks that need gcc or cargo
+FOR_ALL = ['bindings/build', 'bench/run --tests']       # the first lines of the blocks that need gcc or cargo
 BLOCK = r'^( *)```([a-z]*)\n(.*?)^\1```$'
 COMMAND = r'^ {2,}(?:rt|gcc|cargo|python3|sh|tools/|bench/|target/|\.ci/|reference/)[ a-z].*'
 

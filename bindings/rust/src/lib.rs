@@ -33,7 +33,7 @@
 //! # Ok::<(), Refusal>(())
 //! ```
 //!
-//! The static library that `rt staticlib relaymarten` writes is linked: from `target/staticlib` of the repository, or from the
+//! The static library that `bindings/build` writes is linked: from `target/staticlib` of the repository, or from the
 //! folder that the environment variable `RELAYMARTEN_LIB_DIR` names when the crate is built. [`raw`] has its calls as
 //! `bindings/relaymarten.h` declares them. What the proofs ask of a caller there (pointers that are not null, aligned and valid
 //! for their length, and nothing written that overlaps anything else) is what Rust's references are.

@@ -1,1 +1,0 @@
-pub mod ToldLaws  -- an answer told as number and value

@@ -1,3 +1,0 @@
-pub mod Told  -- an answer as number and value
-pub mod Reading  -- the reading as C passes it
-pub mod Version  -- the version

@@ -1,0 +1,2 @@
+pub mod Told  -- an answer as number and value
+pub mod Reading  -- the reading as C passes it
