@@ -25,7 +25,8 @@ use Rattle.outcomes.proofs.DemandLaws.{nearest-rule, radius-rule, clean-rule}
 use Rattle.decoder.specs.Causes.{decodeAnswer}
 use Rattle.decoder.specs.Decoded.{Batch, Lent, Decoded}
 use Rattle.decoder.specs.Inner.SlotsBy.{wordBy, countBy}
-use Rattle.decoder.proofs.CauseLaws.{Passed, batch-in, refused-number, decode-passes, radius-in}
+use Rattle.judging.proofs.CauseLaws.{radius-in}
+use Rattle.decoder.proofs.DecodeCauseLaws.{Passed, batch-in, refused-number, decode-passes}
 use Rattle.decoder.proofs.SlotLaws.{slot-at, words-are, counts-are}
 
 -- the answer to a batch

@@ -1,13 +1,13 @@
 // Decode: a batch of received words, read as the nearest codewords or within a radius.
-use crate::causes::known_past;
+use answers::Answer;
+use answers::Refusal;
+use judging::known_past_8;
 use leaders::fill_leaders;
 use outcomes::Reading;
 use outcomes::count_in;
 use outcomes::outcome_of;
 use outcomes::word_in;
 use parity::syndromes;
-use answers::Answer;
-use answers::Refusal;
 use words::limits::MAX_CHECKS;
 ghost use mathlib.Core.Path.{_≡_};
 ghost use mathlib.Core.Bool.{true};
@@ -164,7 +164,7 @@ fn decode_by(
         (record { codewords = now (out .exit); counts = now (counts .exit); work = now (work .exit) }) ⌝ }
     ensures { λ r. ⌜ (measure ≡ true → r .dmin ≡ ifDone (r .answer) (dmin (now (rows .entry))) 0) ⌝ }
 {
-    let c = known_past(measure, n, k, rows, reading, words, out.len(), counts.len());
+    let c = known_past_8(measure, n, k, rows, reading, words, out.len(), counts.len());
     let a = c.answer;
     let Answer::Done = a else {
         return unmeasured(a);

@@ -193,8 +193,11 @@ smallest-end rows w t best upto small F stop = record { upper = small; each = λ
       where
         go : (b : Bool) → eqb (weight (encode rows u)) w ≡ b → (best ≡ 2 ^ 32 - 1) ⊎ ((u : ℕ) × FewWeigh rows w u × (best ≡ encode rows u))
         go true q =
-            inr (u, record { message = h; some = ne; few = omega arith; weighs = eqb-true (weight (encode rows u)) w q },
-            e ∙ ap (λ (b : Bool). cond b (encode rows u) (2 ^ 32 - 1)) q)
+            inr (
+              u,
+              record { message = h; some = ne; few = omega arith; weighs = eqb-true (weight (encode rows u)) w q },
+              e ∙ ap (λ (b : Bool). cond b (encode rows u) (2 ^ 32 - 1)) q,
+            )
         go false q = inl (e ∙ ap (λ (b : Bool). cond b (encode rows u) (2 ^ 32 - 1)) q)
 
 -- no sum of rows is looked at for the weight 0

@@ -1,10 +1,10 @@
 // The minimum distance alone, without a walk over all codewords: the sums of the reduced rows by rising number of rows. Each row that is
 // added keeps its own pivot, so that a sum of t rows weighs at least t, and the search ends as soon as t reaches the least weight met.
 use crate::search::least_sum;
+use answers::Answer;
+use parity::code_of;
 use walk::NO_WEIGHT;
 use walk::walk_all;
-use parity::code_of;
-use answers::Answer;
 use words::limits::MAX_CHECKS;
 ghost use mathlib.Core.Path.{_≡_};
 ghost use Rattle.coding.specs.Weight.{dmin};

@@ -1,8 +1,8 @@
 // Encode: the message times the matrix, modulo 2.
-use linear::accept;
 use answers::Answer;
-use words::lists::list_cause;
+use linear::accept;
 use sums::row_sums;
+use words::lists::list_cause;
 ghost use Rattle.encoder.specs.Encoded.{Encoded};
 
 // Writes the codeword of each message of k places.

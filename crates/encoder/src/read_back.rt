@@ -1,13 +1,13 @@
 // Message: codewords are read back to the messages of the matrix as given.
-use parity::code_of;
-use parity::syndromes;
 use answers::Answer;
 use answers::Refusal;
+use parity::code_of;
+use parity::syndromes;
+use sums::row_sums;
 use words::limits::MAX_CHECKS;
 use words::limits::MAX_WORDS;
 use words::lists::list_cause;
 use words::shape::first_outside;
-use sums::row_sums;
 ghost use mathlib.Core.Path.{_≡_};
 ghost use mathlib.Core.Bool.{not};
 ghost use lib.Dec.{eqb};

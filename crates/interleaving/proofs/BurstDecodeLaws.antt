@@ -27,9 +27,11 @@ use Rattle.words.proofs.AcceptedLaws.{shape-refused}
 use Rattle.outcomes.specs.Outcome.{wordOf}
 use Rattle.outcomes.specs.declared.ending.Reading.{Reading}
 use Rattle.outcomes.specs.declared.ending.Reading.the-variants.{Within}
-use Rattle.decoder.specs.Causes.{codeAnswer, listsAnswer, decodeAnswer}
+use Rattle.decoder.specs.Causes.{listsAnswer, decodeAnswer}
+use Rattle.judging.specs.Causes.{codeAnswer}
 use Rattle.decoder.specs.Decoded.{Lent, Decoded}
-use Rattle.decoder.proofs.CauseLaws.{accepted-past, at-matrix, code-numbered, code-every-row, lists-last}
+use Rattle.judging.proofs.CauseLaws.{accepted-past, at-matrix, code-numbered, code-every-row}
+use Rattle.decoder.proofs.DecodeCauseLaws.{lists-last}
 use Rattle.interleaving.specs.Causes.{bitsAnswer, interleavedAnswer}
 use Rattle.interleaving.specs.Decoded.{Received, sortedBatch, InterleavedNumber, DecodedInterleaved}
 use Rattle.interleaving.proofs.BitLaws.{bits-in, bits-numbered}

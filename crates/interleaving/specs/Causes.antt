@@ -14,7 +14,8 @@ use Rattle.answers.specs.declared.answer.Refusal.the-variants.{NoDepth, NoBits}
 use Rattle.answers.specs.declared.answer.Answer.{Answer}
 use Rattle.answers.specs.declared.answer.Answer.the-variants.{Done}
 use Rattle.outcomes.specs.declared.ending.Reading.the-variants.{Within}
-use Rattle.decoder.specs.Causes.{codeAnswer, listsAnswer}
+use Rattle.decoder.specs.Causes.{listsAnswer}
+use Rattle.judging.specs.Causes.{codeAnswer}
 
 -- no byte above 1: none with a one outside its one place
 abbrev pub onlyBits : List ℕ → Bool

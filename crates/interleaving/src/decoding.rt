@@ -1,16 +1,16 @@
 // Decode within a radius after sorting back.
 use crate::causes::bits_cause;
 use crate::sorting::sort_words;
-use decoder::code_cause;
-use outcomes::Reading;
 use answers::Answer;
 use answers::Refusal;
+use judging::code_cause;
+use outcomes::Reading;
 use words::limits::MAX_DEPTH;
 use words::limits::MAX_PLACES;
 ghost use mathlib.Core.Path.{_≡_};
 ghost use Rattle.answers.specs.Refusal.{andThen};
 ghost use Rattle.outcomes.specs.declared.ending.Reading.the-variants.{Within};
-ghost use Rattle.decoder.specs.Causes.{codeAnswer};
+ghost use Rattle.judging.specs.Causes.{codeAnswer};
 ghost use Rattle.interleaving.specs.Decoded.{DecodedInterleaved};
 
 // Causes 1 to 5, and past them the refusal.

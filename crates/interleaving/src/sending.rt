@@ -1,7 +1,7 @@
 // Interleave: place j of word i becomes bit number L * j + i, L being the number of words.
 use crate::causes::length_cause;
-use linear::accept;
 use answers::Answer;
+use linear::accept;
 use words::lists::inside_cause;
 ghost use mathlib.Core.Path.{_≡_};
 ghost use Prim.Native.Nat.{_+_, _*_, _≤_, _<_};

@@ -1,7 +1,7 @@
 // Deinterleave: the received bits are sorted back, place j of word i being bit number L * j + i.
 use crate::causes::bits_cause;
-use linear::accept;
 use answers::Answer;
+use linear::accept;
 use words::lists::room_cause;
 ghost use mathlib.Core.Path.{_≡_};
 ghost use mathlib.Core.List.{_++_};

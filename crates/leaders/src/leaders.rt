@@ -1,8 +1,8 @@
 // Part 4: the leaders of all syndromes, in a lent list.
 use crate::build::build;
-use parity::parity_checks;
 use answers::Answer;
 use answers::Refusal;
+use parity::parity_checks;
 use words::limits::MAX_CHECKS;
 use words::limits::WIDTH;
 ghost use mathlib.Core.Path.{_≡_};

@@ -225,14 +225,7 @@ fn put_closing(out: &mut [u8], at: usize, t: Tally) -> usize
 }
 
 // All lines of a batch, into a list that holds the longest output; one that cannot be printed leaves the list as it was, and 0 is answered.
-pub fn put_batch(
-    out: &mut [u8],
-    n: u32,
-    k: u32,
-    d: u32,
-    codewords: &[u32],
-    counts: &[u8],
-) -> usize
+pub fn put_batch(out: &mut [u8], n: u32, k: u32, d: u32, codewords: &[u32], counts: &[u8]) -> usize
     ensures { λ r. ⌜ Put (Printable n (now (codewords .entry)) (now (counts .entry)) (now (out .entry)))
         (now (out .entry)) (batchLines n k d (now (codewords .entry)) (now (counts .entry))) (now (out .exit)) r ⌝ }
 {

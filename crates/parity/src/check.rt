@@ -1,7 +1,7 @@
 // Part 2: parity-check rows and syndromes.
 use crate::batch::syndromes;
-use linear::reduce;
 use answers::Answer;
+use linear::reduce;
 use words::limits::MAX_CHECKS;
 use words::limits::MAX_ROWS;
 use words::limits::WIDTH;

@@ -2,8 +2,8 @@
 use libc::STDERR_FILENO;
 use libc::STDIN_FILENO;
 use libc::STDOUT_FILENO;
-use sheet::MAX_SHEET;
 use lines::MAX_OUTPUT;
+use sheet::MAX_SHEET;
 use sheet_run::run;
 ghost use Prim.Native.Nat.{_<_};
 ghost use lib.ListN.{length};

@@ -24,7 +24,7 @@ use Rattle.outcomes.specs.Outcome.{takes, outcomeOf, decodedAs, wordOf, countOf
 use Rattle.decoder.specs.Causes.{decodeAnswer}
 use Rattle.decoder.specs.Decoded.{Batch, Lent, Decoded}
 use Rattle.outcomes.specs.declared.ending.Reading.{Reading}
-use Rattle.decoder.proofs.CauseLaws.{Passed, batch-in}
+use Rattle.decoder.proofs.DecodeCauseLaws.{Passed, batch-in}
 use Rattle.lines.specs.Text.{space, lineFeed}
 use Rattle.lines.specs.Closing.{closingLine}
 use Rattle.tally.specs.Tally.{tallyOf}

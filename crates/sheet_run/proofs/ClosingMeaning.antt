@@ -3,7 +3,7 @@ use mathlib.Core.Path.{_≡_, refl, ap, _∙_}
 use mathlib.Core.List.{List, [], _∷_, _++_, map, append-assoc}
 use Prim.Native.Nat.{ℕ, _^_}
 use native.Mathlib.Omega.{arith}
-use lib.ListN.{length, length-map}
+use lib.ListN.{length-map}
 use Rattle.coding.specs.Weight.{dmin}
 use Rattle.words.specs.Limits.{maxWords, maxChecks}
 use Rattle.words.specs.Accepted.{Accepted}
@@ -14,7 +14,7 @@ use Rattle.outcomes.specs.Outcome.{wordIn, decodedAs}
 use Rattle.outcomes.specs.declared.ending.Reading.{Reading}
 use Rattle.outcomes.specs.declared.ending.Outcome.{Outcome}
 use Rattle.decoder.specs.Causes.{decodeAnswer}
-use Rattle.decoder.proofs.CauseLaws.{batch-in}
+use Rattle.decoder.proofs.DecodeCauseLaws.{batch-in}
 use Rattle.sheet.specs.Sheet.{sheetOf}
 use Rattle.sheet.specs.Words.{wordsIn}
 use Rattle.sheet.specs.declared.answer.Sheet.{Sheet}

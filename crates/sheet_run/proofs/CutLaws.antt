@@ -19,9 +19,10 @@ use Rattle.answers.specs.declared.answer.Answer.{Answer}
 use Rattle.answers.specs.declared.answer.Answer.the-variants.{Done, Refused}
 use Rattle.words.proofs.ShapeLaws.{range-in}
 use Rattle.words.proofs.AcceptedLaws.{shape-refused}
-use Rattle.decoder.specs.Causes.{codeAnswer, listsAnswer, decodeAnswer}
+use Rattle.decoder.specs.Causes.{listsAnswer, decodeAnswer}
+use Rattle.judging.specs.Causes.{codeAnswer}
 use Rattle.outcomes.specs.declared.ending.Reading.{Reading}
-use Rattle.decoder.proofs.CauseLaws.{at-matrix}
+use Rattle.judging.proofs.CauseLaws.{at-matrix}
 use Rattle.sheet.specs.Words.{wordsAt}
 use Rattle.sheet_run.specs.Output.{linesOf, batchOutput}
 use Rattle.sheet_run.specs.Inner.Loaded.{Loaded}

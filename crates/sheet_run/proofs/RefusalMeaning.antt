@@ -13,7 +13,7 @@ use Rattle.answers.specs.declared.answer.Answer.the-variants.{Done, Refused}
 use Rattle.answers.proofs.AnswerLaws.{never}
 use Rattle.outcomes.specs.declared.ending.Reading.{Reading}
 use Rattle.decoder.specs.Causes.{decodeAnswer}
-use Rattle.decoder.proofs.CauseLaws.{refused-number, decode-passes}
+use Rattle.decoder.proofs.DecodeCauseLaws.{refused-number, decode-passes}
 use Rattle.sheet.specs.Words.{wordsIn}
 use Rattle.sheet.specs.declared.answer.SheetAnswer.the-variants as reading
 use Rattle.sheet.proofs.SpanLaws.{words-inside}

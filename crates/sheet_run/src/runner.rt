@@ -1,7 +1,7 @@
 // The run: the bytes of a sheet to the bytes printed.
+use crate::load::load;
 use answers::Answer;
 use answers::Refusal;
-use crate::load::load;
 use decoder::decode_measured;
 use lines::MAX_OUTPUT;
 use lines::put_batch;

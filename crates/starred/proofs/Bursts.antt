@@ -16,7 +16,8 @@ use Rattle.coding.proofs.ListLaws.{tabulate-same}
 use Rattle.words.specs.Shape.{shapeAnswer}
 use Rattle.words.specs.Accepted.{matrixAnswer}
 use Rattle.words.specs.Lists.{listAnswer}
-use Rattle.decoder.specs.Causes.{codeAnswer, listsAnswer}
+use Rattle.decoder.specs.Causes.{listsAnswer}
+use Rattle.judging.specs.Causes.{codeAnswer}
 use Rattle.interleaving.specs.Causes.{lengthAnswer, bitsAnswer, interleavedAnswer}
 use Rattle.starred.specs.Matrices.{seven}
 use Rattle.starred.specs.Bursts.{bitList, three, Bursts}

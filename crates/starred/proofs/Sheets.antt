@@ -13,7 +13,8 @@ use Rattle.words.specs.Shape.{shapeAnswer}
 use Rattle.words.specs.Accepted.{matrixAnswer}
 use Rattle.words.specs.Lists.{listAnswer}
 use Rattle.outcomes.specs.declared.ending.Reading.the-variants.{Nearest}
-use Rattle.decoder.specs.Causes.{codeAnswer, listsAnswer, decodeAnswer}
+use Rattle.decoder.specs.Causes.{listsAnswer, decodeAnswer}
+use Rattle.judging.specs.Causes.{codeAnswer}
 use Rattle.sheet.specs.Field.{contentOf, fieldAt}
 use Rattle.sheet.specs.Sheet.{sheetFrom, sheetOf}
 use Rattle.sheet.specs.Words.{wordAt, wordsAt}

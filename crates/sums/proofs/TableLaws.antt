@@ -1,24 +1,19 @@
 -- Laws of tables of sums: with each row the sums are twice as many; and the row sums of words from the tables of groups of rows. Assumes
 -- nothing.
 use mathlib.Core.Path.{_≡_, refl, sym, ap, ap₂, _∙_}
-use mathlib.Core.List.{List, [], _∷_, _++_, map}
-use mathlib.Core.Bool.{not}
-use Prim.Native.Nat.{ℕ, zero, suc, _+_, _-_, _/_, _%_, _^_, _≤_, _<_, min}
+use mathlib.Core.List.{List, [], _∷_, map}
+use Prim.Native.Nat.{ℕ, suc, _+_, _-_, _/_, _%_, _^_, _≤_, _<_, min}
 use native.Mathlib.Decide.{decLe, ℕ-discrete}
-use native.Mathlib.Nat.{pow-suc, suc-ne-zero}
+use native.Mathlib.Nat.{pow-suc}
 use native.Mathlib.Numerals.{add-one}
 use native.Mathlib.Omega.{arith}
-use lib.Dec.{eqb, ltb}
 use lib.ListN.{length, getD, set, take, drop, replicate, length-set, length-map}
-use lib.Seq.{getD-set-same, getD-set-other, ext-getD, take-all, take-at, drop-at}
-use borrow.Author.Tests.{le-ltb, ne-eqb}
-use Rattle.coding.specs.Lists.{first, tabulate}
+use lib.Seq.{getD-set-same, getD-set-other, ext-getD}
+use Rattle.coding.specs.Lists.{tabulate}
 use Rattle.coding.specs.Word.{_⊕_}
 use Rattle.coding.specs.Matrix.{encode}
-use Rattle.coding.proofs.ListLaws.{getD-map, take-most, drop-most, length-tabulate, getD-tabulate, tabulate-map}
+use Rattle.coding.proofs.ListLaws.{getD-map, length-tabulate, getD-tabulate, tabulate-map}
 use Rattle.coding.proofs.MatrixLaws.{encode-zero, encode-top, encode-group}
-use Rattle.coding.proofs.SearchLaws.{first-same}
-use Rattle.words.specs.Shape.{outside, firstOutside}
 use Rattle.sums.specs.Inner.Doubled.{Doubled}
 
 -- ---- one row more

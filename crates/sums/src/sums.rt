@@ -1,7 +1,7 @@
 // The sum of rows that a message selects: the product of the message and the rows, modulo 2.
+use crate::tables::sums_by_tables;
 use words::limits::WIDTH;
 use words::lists::smaller;
-use crate::tables::sums_by_tables;
 use words::word::selected;
 ghost use mathlib.Core.Path.{_≡_};
 ghost use mathlib.Core.List.{map, _++_};

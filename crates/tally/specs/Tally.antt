@@ -1,6 +1,5 @@
 -- 02, No. 1: how the words of a batch ended, added up.
 use mathlib.Core.List.{List, map}
-use Prim.Native.Nat.{ℕ}
 use Rattle.coding.specs.Lists.{total}
 use Rattle.outcomes.specs.declared.ending.Outcome.{Outcome}
 use Rattle.outcomes.specs.declared.ending.Outcome.the-variants.{Clean, Mended, Far}

@@ -10,9 +10,9 @@ use linear::accept;
 use linear::reduced_rows;
 use parity::parity_checks;
 use parity::syndrome;
+use sums::row_sum;
 use weights::describe;
 use weights::weights_of;
-use sums::row_sum;
 
 fn reduced(n: u32, k: u32, rows: &[u32]) {
     let r = reduced_rows(n, k, rows);

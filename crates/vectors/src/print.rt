@@ -1,10 +1,10 @@
 // What a line is made of: text, numbers in decimal, answers, lists.
 use crate::records::SLOTS;
 use crate::records::wide;
-use libc::STDOUT_FILENO;
 use answers::Answer;
 use answers::number;
 use answers::value;
+use libc::STDOUT_FILENO;
 use words::limits::MAX_CHECKS;
 use words::limits::MAX_ROWS;
 use words::limits::WEIGHT_SLOTS;

@@ -1,7 +1,7 @@
 // Describe: what a matrix's code is, by value.
 use crate::dual::walk_code;
-use parity::code_of;
 use answers::Answer;
+use parity::code_of;
 use words::limits::MAX_CHECKS;
 use words::limits::MAX_ROWS;
 use words::limits::WEIGHT_SLOTS;

@@ -1,8 +1,8 @@
 // Causes 6 to 8: the list of words of a call and the room for its results.
-use answers::Answer;
-use answers::Refusal;
 use crate::limits::MAX_WORDS;
 use crate::shape::first_outside;
+use answers::Answer;
+use answers::Refusal;
 ghost use mathlib.Core.Path.{_≡_};
 ghost use Prim.Native.Nat.{min};
 ghost use lib.ListN.{length, getD, replicate};

@@ -1,11 +1,11 @@
 // Causes 1 to 3: the shape of a matrix.
-use answers::Answer;
-use answers::Refusal;
 use crate::limits::MAX_CHECKS;
 use crate::limits::MAX_PLACES;
 use crate::limits::MAX_ROWS;
 use crate::limits::MIN_PLACES;
 use crate::word::fits;
+use answers::Answer;
+use answers::Refusal;
 ghost use mathlib.Core.Path.{_≡_};
 ghost use mathlib.Core.Bool.{true};
 ghost use lib.ListN.{length};

@@ -5,7 +5,6 @@ use mathlib.Core.List.{List}
 use mathlib.Core.Bool.{cond}
 use Prim.Native.Nat.{ℕ, zero, suc, _-_, _^_, _≤_, _<_}
 use lib.Dec.{eqb}
-use lib.ListN.{length}
 use Rattle.coding.specs.Word.{_⊕_, weight}
 use Rattle.coding.specs.Matrix.{encode}
 use Rattle.coding.specs.Reduced.{Echelon}

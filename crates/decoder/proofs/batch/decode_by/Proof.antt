@@ -17,12 +17,13 @@ use Rattle.parity.proofs.CodeOfLaws.{first-checks}
 use Rattle.leaders.specs.Leaders.{workAnswer, leadersList}
 use Rattle.leaders.proofs.LeaderPromiseLaws.{work-short, work-done, list-kept, leaders-stand}
 use Rattle.decoder.specs.Decoded.{Batch, Lent}
-use Rattle.decoder.proofs.CauseLaws.{no-dmin, accepted-past, at-eight, at-work}
+use Rattle.judging.proofs.CauseLaws.{accepted-past, asked-measured, known-checks, known-distance}
+use Rattle.decoder.proofs.DecodeCauseLaws.{no-dmin, at-eight, at-work}
 use Rattle.decoder.proofs.DecodePromiseLaws.{answerTo, decode-refused, words-fit, lent-long, work-long, syndromes-fit, decode-ends}
 use Rattle.decoder.proofs.batch.decode_by.Statement.{statement}
 use Rattle.decoder.proofs.batch.decode_by.Tie as tie
 
-abbrev start : tie.After-known-past → tie.Start
+abbrev start : tie.After-known-past-8 → tie.Start
 start c = c .before .before .before .before .before .before
 
 abbrev batch : tie.Start → Batch
@@ -32,7 +33,7 @@ abbrev lent : tie.Start → Lent
 lent s = record { codewords = s .args .out .now; counts = s .args .counts .now; work = s .args .work .now }
 
 -- rows and words are numbers of 32 bits
-wide : (c : tie.After-known-past)
+wide : (c : tie.After-known-past-8)
     → let a = start c .args in
     Inside width (a .rows .now) × Inside width (a .words .now)
 wide c = (
@@ -48,7 +49,7 @@ accepted : (c : tie.After-enum-told)
 accepted c =
     let k = c .before .before in
     let a = start k .args in
-    accepted-past (a .n) (a .k) (a .rows .now) (a .reading) _ (sym (k .known-past .ensures .answer) ∙ c .enum-told .given .1)
+    accepted-past (a .n) (a .k) (a .rows .now) (a .reading) _ (sym (k .known-past-8 .ensures .answer) ∙ c .enum-told .given .1)
 
 abbrev passed : tie.After-slice-known4 → tie.After-enum-told
 passed c = c .before .before .before .before .before .before
@@ -64,7 +65,7 @@ ends c r e =
     let t = passed c in
     let a = begun c .args in
     sym (at-work (a .n) (a .k) (a .rows .now) (a .reading) (a .words .now) _ _ _
-    (sym (t .before .before .known-past .ensures .answer) ∙ t .enum-told .given .1))
+    (sym (t .before .before .known-past-8 .ensures .answer) ∙ t .enum-told .given .1))
     ∙ e
 
 returns : tie.Need-returns
@@ -76,7 +77,7 @@ returns c =
     let r = c .before .enum-told2 .given .1 in
     let e = u .0 ∙ r in (
       decode-refused (batch s) (lent s) (wide k) _ _ e
-          (e ∙ at-eight (a .n) (a .k) (a .rows .now) (a .reading) (a .words .now) _ _ _ _ (sym (k .known-past .ensures .answer) ∙ r)) _ refl,
+          (e ∙ at-eight (a .n) (a .k) (a .rows .now) (a .reading) (a .words .now) _ _ _ _ (sym (k .known-past-8 .ensures .answer) ∙ r)) _ refl,
       λ _. u .1 ∙ no-dmin _ _ _ e,
     )
 
@@ -111,8 +112,8 @@ size-is c = let a = begun (c .before) .args in shl-one (a .n - a .k) 64 (omega (
 -- the check rows are those of the matrix
 rows-are : (c : tie.Else1)
     → let a = begun (c .before) .args in
-    passed (c .before) .before .before .known-past .result .checks ≡ padded maxChecks (checks (a .n) (a .rows .now))
-rows-are c = let t = passed (c .before) in t .before .before .known-past .ensures .check-rows (t .enum-told .given .1)
+    passed (c .before) .before .before .known-past-8 .result .checks ≡ padded maxChecks (checks (a .n) (a .rows .now))
+rows-are c = let t = passed (c .before) in known-checks (t .before .before .known-past-8 .ensures) (t .enum-told .given .1)
 
 -- the working list begins with the leaders
 work-is : (c : tie.Else1)
@@ -126,7 +127,7 @@ work-is c =
 -- its first n - k check rows are those of the definition
 hs-are : (c : tie.Else1)
     → let a = begun (c .before) .args in
-    take (a .n - a .k) (passed (c .before) .before .before .known-past .result .checks) ≡ checks (a .n) (a .rows .now)
+    take (a .n - a .k) (passed (c .before) .before .before .known-past-8 .result .checks) ≡ checks (a .n) (a .rows .now)
 hs-are c =
     let t = passed (c .before) in
     let a = begun (c .before) .args in
@@ -164,7 +165,7 @@ returns-3 c =
     let s = begun (e .before) in (
       decode-ends (batch s) (lent s) (done e) _ _ _ (hs-are e) (work-is e) (size-is e) _ _ (d .decode-words .ensures .0)
           (d .decode-words .ensures .1),
-      λ h. t .before .before .known-past .ensures .distance h (t .enum-told .given .1),
+      λ h. known-distance (t .before .before .known-past-8 .ensures) (t .enum-told .given .1) (asked-measured (s .args .reading) (s .args .measure) h),
     )
 
 -- k is at most n, and n - k small

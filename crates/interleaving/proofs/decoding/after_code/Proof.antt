@@ -3,7 +3,7 @@ use mathlib.Core.Path.{sym, _∙_}
 use borrow.Author.Needs.{needs}
 use Rattle.answers.proofs.AnswerLaws.{stays, goes}
 use Rattle.outcomes.specs.declared.ending.Reading.the-variants.{Within}
-use Rattle.decoder.specs.Causes.{codeAnswer}
+use Rattle.judging.specs.Causes.{codeAnswer}
 use Rattle.interleaving.proofs.decoding.after_code.Statement.{statement}
 use Rattle.interleaving.proofs.decoding.after_code.Tie as tie
 

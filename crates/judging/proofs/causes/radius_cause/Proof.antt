@@ -1,9 +1,9 @@
--- `decoder::causes::radius_cause`: half of dmin - 1 is below the radius exactly when 2 r + 1 is above dmin. Assumes nothing.
+-- `judging::causes::radius_cause`: half of dmin - 1 is below the radius exactly when 2 r + 1 is above dmin. Assumes nothing.
 use Prim.Native.Nat.{_≤_}
 use borrow.Author.Needs.{needs}
-use Rattle.decoder.proofs.CauseLaws.{radius-large, radius-fits}
-use Rattle.decoder.proofs.causes.radius_cause.Statement.{statement}
-use Rattle.decoder.proofs.causes.radius_cause.Tie as tie
+use Rattle.judging.proofs.CauseLaws.{radius-large, radius-fits}
+use Rattle.judging.proofs.causes.radius_cause.Statement.{statement}
+use Rattle.judging.proofs.causes.radius_cause.Tie as tie
 
 abbrev start : tie.After-known-told → tie.Start
 start c = c .before .before .before

@@ -1,16 +1,16 @@
--- `decoder::causes::code_cause`: the rows are numbers of 32 bits. Assumes nothing.
+-- `judging::causes::code_cause`: the rows are numbers of 32 bits. Assumes nothing.
 use mathlib.Core.Path.{sym}
 use borrow.Author.Needs.{needs}
 use Rattle.words.proofs.ShapeLaws.{every-row-of}
 use Rattle.words.proofs.AcceptedLaws.{matrix-every-row}
-use Rattle.decoder.proofs.CauseLaws.{code-every-row}
-use Rattle.decoder.proofs.causes.code_cause.Statement.{statement}
-use Rattle.decoder.proofs.causes.code_cause.Tie as tie
+use Rattle.judging.proofs.CauseLaws.{code-every-row}
+use Rattle.judging.proofs.causes.code_cause.Statement.{statement}
+use Rattle.judging.proofs.causes.code_cause.Tie as tie
 
 returns : tie.Need-returns
 returns c =
     let a = c .before .before .args in
-    let e = c .known-code .ensures .answer in
+    let e = c .known-past-5 .ensures .answer in
     record {
       answer = e;
       every-row = every-row-of _ _ (sym e)

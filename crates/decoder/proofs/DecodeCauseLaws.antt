@@ -1,90 +1,38 @@
--- Laws of the causes of Decode: which group refuses, and what is known when none does. Assumes nothing.
-use mathlib.Core.Path.{_≡_, refl, sym, ap, _∙_}
+-- Laws of the causes 1 to 9 of Decode. Assumes nothing.
+use mathlib.Core.Path.{_≡_, refl, sym, _∙_}
 use mathlib.Core.List.{List}
-use mathlib.Core.Bool.{Bool, true}
-use Prim.Native.Nat.{ℕ, _+_, _-_, _*_, _/_, _^_, _≤_, _<_, min}
+use Prim.Native.Nat.{ℕ, _-_, _^_, _≤_, min}
 use native.Mathlib.Omega.{arith}
 use lib.Dec.{leb}
 use lib.ListN.{length}
-use borrow.Author.Tests.{leb-true, le-leb, lt-leb, eq-eqb}
+use borrow.Author.Tests.{leb-true, le-leb, eq-eqb}
 use Rattle.coding.specs.Matrix.{Inside}
 use Rattle.coding.specs.Weight.{dmin}
 use Rattle.words.specs.Limits.{maxWords, width}
 use Rattle.answers.specs.Refusal.{numberOf, andThen, Between, ifDone}
-use Rattle.words.specs.Widest.{EveryRow}
 use Rattle.words.specs.Shape.{firstOutside}
-use Rattle.words.specs.Accepted.{matrixAnswer, Accepted}
-use Rattle.words.proofs.AcceptedLaws.{accepted-in, matrix-numbered, matrix-passes}
+use Rattle.words.specs.Accepted.{matrixAnswer}
+use Rattle.words.proofs.AcceptedLaws.{matrix-passes}
 use Rattle.words.specs.Lists.{roomAnswer, listAnswer}
 use Rattle.answers.specs.declared.answer.Refusal.{Refusal}
-use Rattle.answers.specs.declared.answer.Refusal.the-variants.{RadiusTooLarge, ShortOutput, ShortWork}
+use Rattle.answers.specs.declared.answer.Refusal.the-variants.{ShortOutput, ShortWork}
 use Rattle.answers.specs.declared.answer.Answer.{Answer}
 use Rattle.answers.specs.declared.answer.Answer.the-variants.{Done, Refused}
 use Rattle.answers.proofs.AnswerLaws.{unless-done, andThen-done, andThen-assoc, stays, goes}
-use Rattle.answers.proofs.AnswerLaws.{Numbered, Neither, neither, unless-numbered, andThen-numbered, numbered-as, never-of}
-use Rattle.words.proofs.ShapeLaws.{rows-first}
+use Rattle.answers.proofs.AnswerLaws.{Numbered, Neither, neither, unless-numbered, andThen-numbered, numbered-as}
 use Rattle.words.proofs.ShapeLaws.{inside-none}
 use Rattle.words.proofs.WordListLaws.{Listed, list-in, list-numbered, list-passes}
-use Rattle.distance.specs.Distance.{DistanceOf}
-use Rattle.distance.specs.declared.distance.Distance.{Distance}
-use Rattle.decoder.specs.Inner.Known.{asked, KnownOf}
-use Rattle.decoder.specs.declared.matrix.Known.{Known}
-use Rattle.decoder.specs.Causes.{radiusAnswer, codeAnswer, listsAnswer, decodeAnswer}
+use Rattle.judging.specs.Causes.{radiusAnswer, codeAnswer}
+use Rattle.decoder.specs.Causes.{listsAnswer, decodeAnswer}
+use Rattle.judging.proofs.CauseLaws.{radius-numbered, code-numbered}
 use Rattle.leaders.specs.Leaders.{workAnswer}
 use Rattle.outcomes.specs.declared.ending.Reading.{Reading}
-use Rattle.outcomes.specs.declared.ending.Reading.the-variants.{Nearest, Within}
-
--- ---- cause 5 by half of dmin - 1
-
-pub radius-large : (r d : ℕ) → 1 ≤ d → (d - 1) / 2 < r → Refused RadiusTooLarge ≡ radiusAnswer (Within r) d
-radius-large r d h l = simp (lt-leb (2 * r + 1) d (omega arith))
-
-pub radius-fits : (r d : ℕ) → 1 ≤ d → r ≤ (d - 1) / 2 → Done ≡ radiusAnswer (Within r) d
-radius-fits r d h l = simp (le-leb (2 * r + 1) d (omega arith))
-
-pub radius-in : (r d : ℕ) → radiusAnswer (Within r) d ≡ Done → 2 * r + 1 ≤ d
-radius-in r d e = leb-true (2 * r + 1) d (unless-done (leb (2 * r + 1) d) RadiusTooLarge Done e .0)
-
--- it asks for the minimum distance only within a radius
-pub radius-same : (reading : Reading) (measure : Bool) (d e : ℕ) → (asked reading measure ≡ true → d ≡ e) → radiusAnswer reading d ≡ radiusAnswer reading e
-radius-same Nearest measure d e f = refl
-radius-same (Within r) measure d e f = ap (radiusAnswer (Within r)) (f refl)
-
-pub asked-within : (reading : Reading) (measure : Bool) (r : ℕ) → reading ≡ Within r → asked reading measure ≡ true
-asked-within reading measure r e = ap (λ (x : Reading). asked x measure) e
-
-pub asked-measured : (reading : Reading) (measure : Bool) → measure ≡ true → asked reading measure ≡ true
-asked-measured Nearest measure e = e
-asked-measured (Within r) measure e = refl
-
--- what is known of an accepted matrix
-pub distance-of : {n k : ℕ} {rows : List ℕ} {measure : Bool} {r : Known} → KnownOf n k rows measure r → measure ≡ true → r .answer ≡ Done → r .dmin ≡ dmin rows
-distance-of K e d = rw d at (K .distance e)
-
-pub measured-positive : {n k : ℕ} {rows : List ℕ} {r : Distance} → DistanceOf n k rows r → r .answer ≡ Done → 1 ≤ r .dmin
-measured-positive {rows = rows} {r = r} D d = let e : r .dmin ≡ dmin rows = rw d at (D .dmin-is) in rw e (D .distance d .bounds .0)
 
 -- a refusal has no dmin beside it
 pub no-dmin : (a : Answer) (c : Refusal) (d : ℕ) → a ≡ Refused c → 0 ≡ ifDone a d 0
 no-dmin a c d e = rw e refl
 
 -- ---- the groups in order
-
--- past the causes of the matrix it is accepted
-pub accepted-past : (n k : ℕ) (rows : List ℕ) (reading : Reading) (later : Answer) → andThen (codeAnswer n k rows reading) later ≡ Done → Accepted n k rows
-unfolding codeAnswer
-accepted-past n k rows reading later e =
-    accepted-in n k rows (andThen-done (matrixAnswer n k rows) _ (andThen-done (codeAnswer n k rows reading) later e .0) .0)
-
-module _ (n k : ℕ) (rows : List ℕ) (reading : Reading) where
-  -- the matrix refuses, or cause 5 decides
-  pub at-matrix : (c : Refusal) → matrixAnswer n k rows ≡ Refused c → matrixAnswer n k rows ≡ codeAnswer n k rows reading
-  unfolding codeAnswer
-  at-matrix c e = stays (matrixAnswer n k rows) _ c e
-
-  pub at-radius : matrixAnswer n k rows ≡ Done → radiusAnswer reading (dmin rows) ≡ codeAnswer n k rows reading
-  unfolding codeAnswer
-  at-radius e = goes (matrixAnswer n k rows) _ e
 
 module _ (n k : ℕ) (rows : List ℕ) (reading : Reading) (words : List ℕ) (slots bytes room : ℕ) where
   -- causes 1 to 8
@@ -124,17 +72,6 @@ module _ (n k : ℕ) (rows : List ℕ) (reading : Reading) (words : List ℕ) (s
 
 -- ---- the numbers of these causes
 
-radius-numbered : (P : ℕ → Type 0) (reading : Reading) (d : ℕ) → P 5 → Numbered P (radiusAnswer reading d)
-radius-numbered P Nearest d h = tt
-radius-numbered P (Within r) d h = unless-numbered P (leb (2 * r + 1) d) RadiusTooLarge Done h tt
-
-pub code-numbered : (n k : ℕ) (rows : List ℕ) (reading : Reading) → Numbered (Between 1 5) (codeAnswer n k rows reading)
-unfolding codeAnswer
-code-numbered n k rows reading =
-    andThen-numbered (Between 1 5) (matrixAnswer n k rows) _
-    (numbered-as (Between 1 5) (Between 1 4) (λ m h. (h .0, omega (arith, h))) (matrixAnswer n k rows) (matrix-numbered n k rows))
-    (radius-numbered (Between 1 5) reading (dmin rows) (omega arith, omega arith))
-
 room-numbered : (P : ℕ → Type 0) (results slots : ℕ) → P 8 → Numbered P (roomAnswer results slots)
 room-numbered P results slots h = unless-numbered P (leb results slots) ShortOutput Done h tt
 
@@ -170,13 +107,6 @@ decode-numbered n k rows reading words slots bytes room =
 pub refused-number : (n k : ℕ) (rows : List ℕ) (reading : Reading) (words : List ℕ) (slots bytes room : ℕ) (c : Refusal)
     → decodeAnswer n k rows reading words slots bytes room ≡ Refused c → Between 1 9 (numberOf c)
 refused-number n k rows reading words slots bytes room c e = rw e at (decode-numbered n k rows reading words slots bytes room)
-
--- 02, No. 7: at 32 places never 3
-pub code-every-row : (n k : ℕ) (rows : List ℕ) (reading : Reading) → EveryRow n (matrixAnswer n k rows) → EveryRow n (codeAnswer n k rows reading)
-unfolding codeAnswer
-code-every-row n k rows reading w =
-    rows-first n (matrixAnswer n k rows) _ _ refl w
-    (never-of (Between 5 5) 3 (λ h. omega (arith, h)) _ (radius-numbered (Between 5 5) reading (dmin rows) (omega arith, omega arith)))
 
 -- neither 3 nor 7, where words are received
 pub decode-passes : (n k : ℕ) (rows : List ℕ) (reading : Reading) (words : List ℕ) (slots bytes room : ℕ) → n ≡ width → Inside width rows
