@@ -7,6 +7,7 @@ ghost use lib.ListN.{length};
 ghost use Rattle.coding.specs.Word.{_⊕_, weight};
 ghost use Rattle.distance.specs.Inner.LeastSum.{LeastSum, ofWeight, soughtBy};
 
+// The smaller of two weights.
 fn lighter(a: u32, b: u32) -> u32
     ensures { λ r. ⌜ r ≡ min a b ⌝ }
 {

@@ -37,6 +37,7 @@ pub struct Leaders {
     pub tried: u32,
 }
 
+// Check rows and tries are 0 beside a refusal.
 fn refused(answer: Answer) -> Leaders
     ensures { λ r. ⌜ (r .answer ≡ answer) × (r .checks ≡ zeros maxChecks) × (r .tried ≡ 0) ⌝ }
 {

@@ -84,6 +84,7 @@ pub struct Reduction {
     pub messages: [u32; WIDTH],
 }
 
+// Rows, table and messages are 0 beside a refusal.
 fn refused(answer: Answer) -> Reduction
     ensures { λ r. ⌜ (r .answer ≡ answer) × (r .rows ≡ zeros maxRows) × (r .table ≡ zeros width) × (r .messages ≡ zeros width) ⌝ }
 {

@@ -30,6 +30,7 @@ const LINE_FEED: u8 = 10;
 // The digit 0; the others follow it.
 const ZERO: u8 = 48;
 
+// One byte.
 fn put(out: &mut [u8], at: usize, b: u8) -> usize
     requires { ⌜ at + 1 ≤ length (now out) ⌝ }
     ensures { λ r. ⌜ Appends (now (out .entry)) at (b ∷ []) (now (out .exit)) r ⌝ }
@@ -38,6 +39,7 @@ fn put(out: &mut [u8], at: usize, b: u8) -> usize
     at + 1
 }
 
+// The bytes of a text.
 fn put_text(out: &mut [u8], at: usize, text: &[u8]) -> usize
     requires { ⌜ at + length (now text) ≤ length (now out) ⌝ }
     ensures { λ r. ⌜ Appends (now (out .entry)) at (now (text .entry)) (now (out .exit)) r ⌝ }
@@ -187,6 +189,7 @@ fn put_ending(out: &mut [u8], at: usize, count: u8) -> usize
     put_decimal(out, at, count as usize)
 }
 
+// The line of a word: its digits, a blank, and how it ended.
 fn put_line(out: &mut [u8], at: usize, n: u32, c: u32, count: u8) -> usize
     requires { ⌜ (n ≤ width) × (at + lineRoom ≤ length (now out)) ⌝ }
     ensures { λ r. ⌜ Appends (now (out .entry)) at (slotLine n c count) (now (out .exit)) r ⌝ }

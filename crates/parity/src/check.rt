@@ -26,6 +26,7 @@ pub struct ParityChecks {
     pub rows: [u32; MAX_CHECKS],
 }
 
+// The parities of a word with the check rows, the first as the lowest place.
 fn parities(checks: &[u32], w: u32) -> u32
     requires { ⌜ length (now checks) ≤ width ⌝ }
     ensures { λ r. ⌜ r ≡ syndrome (now (checks .entry)) w ⌝ }

@@ -22,6 +22,7 @@ pub(crate) enum Field {
     Bad(Fault),
 }
 
+// A field of one byte.
 fn byte_content(bytes: &[u8], from: usize, size: usize) -> Content
     requires { ⌜ from + size ≤ length (now bytes) ⌝ }
     ensures { λ r. ⌜ r ≡ byteContent (now (bytes .entry)) from size ⌝ }
@@ -32,6 +33,7 @@ fn byte_content(bytes: &[u8], from: usize, size: usize) -> Content
     Content::Byte(bytes[from])
 }
 
+// A field of words, four bytes each.
 fn words_content(from: usize, size: usize) -> Content
     ensures { λ r. ⌜ r ≡ wordsContent from size ⌝ }
 {

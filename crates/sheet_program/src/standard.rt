@@ -11,6 +11,7 @@ ghost use Rattle.io.specs.Counts.{Counts};
 ghost use Rattle.sheet.specs.Sheet.{maxSheet};
 ghost use Rattle.sheet_program.specs.Inner.Enough.{Enough};
 
+// A line on standard error, after the name of the program.
 fn complain(text: &[u8]) {
     io::write_all(STDERR_FILENO, b"decode_sheet: ");
     io::write_all(STDERR_FILENO, text);

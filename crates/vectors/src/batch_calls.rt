@@ -13,6 +13,7 @@ use encoder::encode;
 use encoder::message;
 use outcomes::Reading;
 
+// Encode or Message, and the slots lent to it.
 fn coded(operation: u8, n: u32, k: u32, rows: &[u32], words: &[u32]) {
     let mut out = [UNUSED; SLOTS];
     let size = records::slots(&out);
@@ -45,6 +46,7 @@ fn decoded(operation: u8, n: u32, k: u32, rows: &[u32], reading: Reading, words:
     print::list(c, UNUSED_ENTRY);
 }
 
+// The reading that the operation names.
 fn reading(operation: u8, radius: u32) -> Reading {
     if operation == 23 {
         Reading::Within(radius)

@@ -129,6 +129,7 @@ fn mends(code: Code, burst: Burst, rows: &[u32], sent: &[u32], bits: &[u8]) -> u
     back(code, burst, sent, &out, &counts)
 }
 
+// The tally with one case more.
 fn counted(tally: Tally, mended: u32) -> Tally {
     Tally {
         cases: std::num::wrapping_add_u32(tally.cases, 1),

@@ -6,6 +6,7 @@ use golay::decode;
 use golay::encode;
 use golay::message;
 
+// The codeword of a message, after its answer.
 fn encoded(u: u32) {
     let r = encode(u);
     let a = r.answer;
@@ -13,6 +14,7 @@ fn encoded(u: u32) {
     item(r.word);
 }
 
+// The word and its count, after the answer.
 fn decoded(w: u32) {
     let r = decode(w);
     let a = r.answer;
@@ -21,6 +23,7 @@ fn decoded(w: u32) {
     item(r.count as u32);
 }
 
+// The message of a word, after the answer.
 fn read(w: u32) {
     let r = message(w);
     let a = r.answer;
@@ -28,6 +31,7 @@ fn read(w: u32) {
     item(r.message);
 }
 
+// The operations 30 to 32; the others count patterns.
 pub(crate) fn call(operation: u8, w: u32, t: u32) {
     match operation {
         30 => encoded(w),

@@ -59,6 +59,7 @@ fn of_weight(codeword: u32, t: u32) -> u32 {
     n
 }
 
+// All messages, or all patterns of t places on one codeword.
 pub(crate) fn call(operation: u8, u: u32, t: u32) {
     if operation == 33 {
         messages();

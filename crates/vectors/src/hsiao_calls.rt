@@ -9,10 +9,12 @@ use hsiao::encode;
 use hsiao::message;
 use hsiao::syndrome;
 
+// A number of 64 bits from its halves.
 pub(crate) fn joined(high: u32, low: u32) -> u64 {
     high as u64 * 4294967296 + low as u64
 }
 
+// Prints a word as its check byte and its data.
 pub(crate) fn word(w: Word) {
     item(w.check as u32);
     long(w.data);
@@ -31,6 +33,7 @@ fn decoded(w: Word) {
     long(r.data);
 }
 
+// The operations 40 and 41; the others change places.
 pub(crate) fn call(operation: u8, high: u32, low: u32, x: u32) {
     let data = joined(high, low);
     match operation {

@@ -15,6 +15,7 @@ struct Code {
     limit: u32,
 }
 
+// The code of a width; that of 0 is the (72,64) code without a width.
 fn code_of(width: u32) -> Code {
     match width {
         16 => Code {
@@ -38,6 +39,7 @@ fn code_of(width: u32) -> Code {
     }
 }
 
+// The check bits of the data, by the call of the code.
 fn check_of(code: Code, data: u64) -> u8 {
     if code.width == 0 {
         return encode(data);
@@ -46,6 +48,7 @@ fn check_of(code: Code, data: u64) -> u8 {
     e.check
 }
 
+// The word and its count, by the call of the code.
 fn decoded(code: Code, w: Word) -> Decoding {
     if code.width == 0 {
         return decode(w);

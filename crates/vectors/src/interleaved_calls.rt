@@ -14,6 +14,7 @@ use interleaving::decode;
 use interleaving::deinterleave;
 use interleaving::interleave;
 
+// Interleave, and the slots lent to it.
 fn sent(n: u32, k: u32, rows: &[u32], words: &[u32]) {
     let mut bits = [UNUSED_COUNT; SLOTS];
     let size = io::count(number() as isize, &bits);
@@ -22,6 +23,7 @@ fn sent(n: u32, k: u32, rows: &[u32], words: &[u32]) {
     print::counts(lent);
 }
 
+// Deinterleave, and the slots lent to it.
 fn sorted(n: u32, k: u32, rows: &[u32], depth: usize, bits: &[u8]) {
     let mut out = [UNUSED; SLOTS];
     let size = records::slots(&out);
@@ -30,6 +32,7 @@ fn sorted(n: u32, k: u32, rows: &[u32], depth: usize, bits: &[u8]) {
     print::list(lent, UNUSED);
 }
 
+// The decode of interleaved words, and the slots of its three lists.
 fn decoded(n: u32, k: u32, rows: &[u32], radius: u32, depth: usize, bits: &[u8]) {
     let mut out = [UNUSED; SLOTS];
     let mut counts = [UNUSED_COUNT; SLOTS];
@@ -80,6 +83,7 @@ fn receiving(operation: u8, n: u32, k: u32, x: u32, rows: &[u32]) {
     }
 }
 
+// 61 and 62 read bits; the others words.
 pub(crate) fn call(operation: u8, n: u32, k: u32, x: u32, rows: &[u32]) {
     match operation {
         61 => receiving(operation, n, k, x, rows),

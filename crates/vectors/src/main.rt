@@ -17,6 +17,7 @@ mod width_calls; // operations of the codes of 16, 32 and 64 data bits
 // More records than the input has.
 const MAX_RECORDS: usize = 100000;
 
+// One record after another, until the input ends.
 fn main() {
     let mut left = MAX_RECORDS;
     while 0 < left {

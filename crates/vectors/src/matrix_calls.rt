@@ -14,6 +14,7 @@ use sums::row_sum;
 use weights::describe;
 use weights::weights_of;
 
+// The reduced rows, after the answer.
 fn reduced(n: u32, k: u32, rows: &[u32]) {
     let r = reduced_rows(n, k, rows);
     let a = r.answer;
@@ -72,6 +73,7 @@ fn leading(n: u32, k: u32, rows: &[u32]) {
     print::list(lent, UNUSED_ENTRY);
 }
 
+// The operations on a matrix, 10 to 16.
 pub(crate) fn call(operation: u8, n: u32, k: u32, x: u32, rows: &[u32]) {
     match operation {
         10 => answer(accept(n, k, rows)),

@@ -9,6 +9,7 @@ use words::word::selected;
 use words::word::sum;
 use words::word::weight;
 
+// The operations on two numbers, 1 to 8.
 pub(crate) fn call(operation: u8, a: u32, b: u32) -> u32 {
     match operation {
         1 => sum(a, b),

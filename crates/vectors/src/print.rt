@@ -17,6 +17,7 @@ pub(crate) const UNUSED_COUNT: u8 = 77;
 
 pub(crate) const UNUSED_ENTRY: u32 = 7777;
 
+// A text.
 pub(crate) fn text(t: &[u8]) {
     io::write_all(STDOUT_FILENO, t);
 }
@@ -27,6 +28,7 @@ pub(crate) fn long(x: u64) {
     io::print_decimal(STDOUT_FILENO, x);
 }
 
+// A number after a blank.
 pub(crate) fn item(x: u32) {
     long(x as u64);
 }
@@ -114,16 +116,19 @@ pub(crate) fn counts(bytes: &[u8]) {
     list(&xs[..size], UNUSED_COUNT as u32);
 }
 
+// Every entry of the reduced rows.
 pub(crate) fn rows(xs: &[u32; MAX_ROWS]) {
     text(b", rows");
     items(xs);
 }
 
+// Every entry of the check rows.
 pub(crate) fn checks(xs: &[u32; MAX_CHECKS]) {
     text(b", checks");
     items(xs);
 }
 
+// Every entry of the weight counts.
 pub(crate) fn weights(xs: &[u32; WEIGHT_SLOTS]) {
     text(b", weights");
     items(xs);

@@ -17,18 +17,21 @@ pub(crate) const SLOTS: usize = 600;
 
 pub(crate) const ENTRIES: usize = 4200;
 
+// A byte as a number.
 pub(crate) fn wide(x: u8) -> u32
     ensures { λ r. ⌜ r < 256 ⌝ }
 {
     x as u32
 }
 
+// The next byte of the input.
 fn byte() -> u8 {
     let mut b = [0u8; 1];
     io::read_full(STDIN_FILENO, &mut b);
     b[0]
 }
 
+// The next number of two bytes, high byte first.
 fn half() -> u32
     ensures { λ r. ⌜ r < 65536 ⌝ }
 {
@@ -37,6 +40,7 @@ fn half() -> u32
     wide(b[0]) * 256 + wide(b[1])
 }
 
+// The next number of four bytes, high byte first.
 pub(crate) fn number() -> u32 {
     let high = half();
     high * 65536 + half()

@@ -8,6 +8,7 @@ use crate::print::item;
 use crate::print::long;
 use hsiao::Word;
 
+// The check bits of the data, after the answer.
 fn encoded(width: u32, data: u64) {
     let e = hsiao::widths::encode(width, data);
     let a = e.answer;
@@ -37,6 +38,7 @@ fn beside(list: &[u32]) -> u32 {
     list[0]
 }
 
+// The operations 50 and 51; the others change places.
 pub(crate) fn call(operation: u8, high: u32, low: u32, width: u32, list: &[u32]) {
     let data = joined(high, low);
     let x = beside(list);

@@ -12,6 +12,7 @@ const MAX_RECORDS: usize = 100000;
 
 const MAX_BYTES: usize = 8192;
 
+// A byte as a number.
 fn wide(x: u8) -> usize
     ensures { λ r. ⌜ r < 256 ⌝ }
 {
@@ -62,6 +63,7 @@ fn print_record() -> bool {
     true
 }
 
+// One record after another, until the input ends.
 fn main() {
     let mut left = MAX_RECORDS;
     while 0 < left {

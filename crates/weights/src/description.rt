@@ -21,6 +21,7 @@ pub struct Description {
     pub lightest: u32,
 }
 
+// Every other part is 0 beside a refusal.
 fn refused(answer: Answer) -> Description
     ensures { λ r. ⌜ (r .answer ≡ answer) × (r .rows ≡ zeros maxRows) × (r .checks ≡ zeros maxChecks) × (r .dmin ≡ 0)
         × (r .counts ≡ zeros weightSlots) × (r .lightest ≡ 0) ⌝ }

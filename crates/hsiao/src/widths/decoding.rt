@@ -22,6 +22,7 @@ pub struct Decoding {
     pub count: u8,
 }
 
+// Word and count are 0 beside a refusal.
 fn refused(cause: Refusal) -> Decoding
     ensures { λ r. ⌜ (r .answer ≡ Refused cause) × (r .word ≡ noWord) × (r .count ≡ 0) ⌝ }
 {

@@ -15,6 +15,7 @@ pub struct Encoding {
     pub check: u8,
 }
 
+// The check bits are 0 beside a refusal.
 fn refused(cause: Refusal) -> Encoding
     ensures { λ r. ⌜ (r .answer ≡ Refused cause) × (r .check ≡ 0) ⌝ }
 {

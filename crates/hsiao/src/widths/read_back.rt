@@ -11,6 +11,7 @@ ghost use Rattle.answers.specs.declared.answer.Answer.the-variants.{Refused};
 ghost use Rattle.hsiao.specs.Widths.Code.{isWidth, checksOf};
 ghost use Rattle.hsiao.specs.Widths.MessageRead.{MessageRead};
 
+// The data are 0 beside a refusal.
 fn refused(cause: Refusal) -> ReadBack
     ensures { λ r. ⌜ (r .answer ≡ Refused cause) × (r .«data» ≡ 0) ⌝ }
 {
