@@ -189,10 +189,20 @@ fn walk_few(rows: &[u32]) -> Walk
     )
 }
 
-// The walk over all codewords of the rows, of as many as a matrix may have.
+// The walk over all codewords of the rows, of as many as a matrix may have. Where all of them are 0, so is the word.
 pub fn walk_all(rows: &[u32]) -> Walk
     ensures { λ r. ⌜ Walked (take maxRows (now (rows .entry))) (2 ^ length (take maxRows (now (rows .entry)))) r ⌝ }
+    ensures { λ r. ⌜ (weightSlots ≤ r .least → r .lightest ≡ 0) ⌝ }
 {
     let m = smaller(MAX_ROWS, rows.len());
-    walk_few(&rows[..m])
+    let walk = walk_few(&rows[..m]);
+    if walk.least < NO_WEIGHT {
+        return walk;
+    }
+    let counts = walk.counts;
+    Walk {
+        counts,
+        least: walk.least,
+        lightest: 0,
+    }
 }

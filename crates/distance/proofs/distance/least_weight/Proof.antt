@@ -24,7 +24,7 @@ returns : tie.Need-returns Inv-loop μ-loop
 returns c =
     let M = start (c .before .before .before .before .before) .pre in
     least-is (M .n) (M .k) _ (M .accepted) (c .walk-all .result)
-    (walked-all (omega (arith, M .accepted .range .rows, M .accepted .count)) (c .walk-all .ensures))
+    (walked-all (omega (arith, M .accepted .range .rows, M .accepted .count)) (c .walk-all .ensures .0))
 
 least-sum-requires : tie.Need-least-sum-requires Inv-loop μ-loop
 least-sum-requires c κs =

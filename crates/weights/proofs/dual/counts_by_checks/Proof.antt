@@ -21,7 +21,7 @@ walk : (w : tie.After-walk-all) (rows : List ℕ) → w .before .before .args .h
     → Walked (checks (w .before .before .args .n) rows) (2 ^ length (checks (w .before .before .args .n) rows)) (w .walk-all .result)
 walk w rows e =
     let W : Walked (w .before .before .args .hs .now) (2 ^ length (w .before .before .args .hs .now)) (w .walk-all .result)
-    = walked-all (omega (arith, few (w .before .before))) (w .walk-all .ensures) in
+    = walked-all (omega (arith, few (w .before .before))) (w .walk-all .ensures .0) in
     rw e at W
 
 overlap-counts-requires : tie.Need-overlap-counts-requires

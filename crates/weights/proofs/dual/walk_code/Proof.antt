@@ -9,7 +9,7 @@ use Rattle.weights.proofs.dual.walk_code.Tie as tie
 returns : tie.Need-returns
 returns c =
     let P = c .before .before .before .before .before .pre in
-    walked-all (omega (arith, P .accepted .range .rows, P .accepted .count)) (c .walk-all .ensures)
+    walked-all (omega (arith, P .accepted .range .rows, P .accepted .count)) (c .walk-all .ensures .0)
 
 returns-2 : tie.Need-returns-2
 returns-2 c =
