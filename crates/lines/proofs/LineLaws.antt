@@ -23,11 +23,10 @@ pub refused-parts : (number value : ℕ)
 unfolding refusedLine
 refused-parts number value = simp append-assoc
 
-pub code-parts : (n k d : ℕ)
-    → (decimal n ++ space ∷ []) ++ (decimal k ++ space ∷ []) ++ (decimal d ++ space ∷ [])
-    ++ (decimal ((d - 1) / 2) ++ lineFeed ∷ []) ≡ codeLine n k d
+pub code-parts : (n k d t : ℕ) → t ≡ (d - 1) / 2
+    → (decimal n ++ space ∷ []) ++ (decimal k ++ space ∷ []) ++ (decimal d ++ space ∷ []) ++ (decimal t ++ lineFeed ∷ []) ≡ codeLine n k d
 unfolding codeLine
-code-parts n k d = simp append-assoc
+code-parts n k d t e = rw e (simp append-assoc)
 
 pub slot-parts : (n c count : ℕ) → digitsOf n c ++ space ∷ [] ++ ending (slotOutcome count) ++ lineFeed ∷ [] ≡ slotLine n c count
 unfolding slotLine

@@ -1,10 +1,5 @@
 -- `lines::print::put_code`: the parts of the line. Assumes nothing.
-use mathlib.Core.Path.{ap, _∙_}
-use mathlib.Core.List.{[], _∷_, _++_}
-use Prim.Native.Nat.{ℕ}
 use native.Mathlib.Omega.{arith}
-use Rattle.lines.specs.Decimal.{decimal}
-use Rattle.lines.specs.Text.{space, lineFeed}
 use Rattle.lines.proofs.AppendLaws.{appends-as, then}
 use Rattle.lines.proofs.LineLaws.{code-parts}
 use borrow.Author.Needs.{needs}
@@ -34,7 +29,7 @@ returns c =
     let a = n .before .before .before .args in (
       appends-as
           (then (then (then (n .put-number .ensures .0) (k .put-number2 .ensures .0)) (d .put-number3 .ensures .0)) (t .put-number4 .ensures .0))
-          _ (ap (λ (x : ℕ). decimal (a .n) ++ (space ∷ []) ++ (decimal (a .k) ++ (space ∷ [])) ++ (decimal (a .d) ++ (space ∷ [])) ++ (decimal x ++ (lineFeed ∷ []))) (h .half-below .ensures) ∙ code-parts (a .n) (a .k) (a .d)),
+          _ (code-parts (a .n) (a .k) (a .d) _ (h .half-below .ensures)),
       omega arith,
     )
 
