@@ -95,7 +95,7 @@ pub fn put_refusal(out: &mut [u8], number: u32, value: usize) -> usize
     put_number(out, a, value, LINE_FEED)
 }
 
-// t, the radius within which a minimum distance d admits every reading; 0 where d is 0.
+// t, the largest radius that a minimum distance d admits; 0 where d is 0.
 fn half_below(d: u32) -> u32
     ensures { λ r. ⌜ r ≡ (d - 1) / 2 ⌝ }
 {
