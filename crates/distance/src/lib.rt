@@ -1,4 +1,6 @@
 // The minimum distance alone, and the smallest codeword of a weight, by rising number of rows.
+#![tactic(auto)]
+
 pub mod distance; // the minimum distance of a matrix
 pub mod search; // the least of the sums of so many rows
 pub mod smallest; // the smallest codeword of a weight

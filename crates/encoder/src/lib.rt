@@ -1,4 +1,6 @@
 // The operations Encode and Message on lists.
+#![tactic(auto)]
+
 pub mod encoding; // Encode
 pub mod read_back; // Message
 

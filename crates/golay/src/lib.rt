@@ -1,4 +1,6 @@
 // The extended Golay code (24,12): document 01, parts 6 and 8, one word at a time.
+#![tactic(auto)]
+
 pub mod decoding; // within radius 3
 pub mod encoding; // a message to its codeword
 pub mod read_back; // a codeword to its message

@@ -1,5 +1,7 @@
 // The (72,64) code, a Hsiao code: 8 check bits, 64 data bits, columns of odd weight; document 01, part 7. And the codes of 16 and 32 data
 // bits beside it; document 02, No. 3.
+#![tactic(auto)]
+
 pub mod columns; // the table of the data columns
 pub mod decoding; // Decode at radius 1
 pub mod encoding; // Encode

@@ -1,4 +1,6 @@
 // How one word ends: document 01, part 5.
+#![tactic(auto)]
+
 pub mod ending; // the reading and the outcome
 
 pub use crate::ending::{Outcome, Reading, count_in, outcome_of, word_in};

@@ -3,6 +3,8 @@
 // a fourth (specs/HsiaoWidths.antt), the last leaders of its codes as a fifth (specs/LastLeaders.antt), words sent interleaved as a sixth
 // (specs/Bursts.antt), n and k at their limits with words of 32 places as a seventh (specs/LongestWords.antt), every cause with its number
 // as an eighth (specs/Causes.antt), proved over the definitions that the contracts cite, nearly all by computation.
+#![tactic(auto)]
+
 ghost use Rattle.starred.specs.Starred.{Starred};
 ghost use Rattle.starred.specs.Sheets.{Sheets};
 ghost use Rattle.starred.specs.LightestCodewords.{LightestCodewords};

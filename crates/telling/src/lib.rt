@@ -1,4 +1,6 @@
 // How a call tells its answer to a program in another language, and how that passes a reading.
+#![tactic(auto)]
+
 pub mod reading; // the reading as a number and a radius
 pub mod told; // an answer as a number and a value
 

@@ -1,6 +1,8 @@
 // Test vectors of the crates linear, weights, leaders, decoder, interleaving, golay and hsiao: each record of standard input is one call, and
 // its line says how the call ended and what every lent list holds afterwards. The stored input and output, which reference/vectors.py makes
 // from documents 01 and 02 alone, decide.
+#![tactic(auto)]
+
 mod batch_calls; // operations on a matrix and a batch of words
 mod bursts; // bursts in every window of interleaved bits
 mod golay_calls; // operations of the extended Golay code

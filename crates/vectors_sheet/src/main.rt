@@ -1,5 +1,7 @@
 // Many sheets: standard input has records of a title (its length in one byte) and a sheet (its length in two bytes, high byte
 // first); each title is printed, and after it what the run gives for its sheet.
+#![tactic(auto)]
+
 ghost use Rattle.std.specs.Prelude.{◌<◌};
 ghost use Rattle.io.specs.Counts.{IsPrefixLen};
 
