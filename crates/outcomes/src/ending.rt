@@ -5,14 +5,14 @@ ghost use Rattle.outcomes.specs.Outcome.{outcome_of, word_in, count_in};
 use words::word::{sum, weight};
 
 // How a batch is read: complete decoding, or bounded-distance decoding within a radius.
-#[derive(Drop)]
+#[derive(Clone, Copy)]
 pub enum Reading {
     Nearest,
     Within(u32),
 }
 
 // Clean: no error; mended: corrected in so many places; far: a decoding failure.
-#[derive(Drop)]
+#[derive(Clone, Copy)]
 pub enum Outcome {
     Clean(u32),
     Mended(u32, u8),
