@@ -1,0 +1,12 @@
+-- Slot i becomes the row sum of word i.
+use Rattle.std.proofs.Common.{arith}
+use Rattle.coding.specs.Matrix.{encode}
+use Rattle.coding.proofs.LoopLaws.{over-map_step}
+use Rattle.sums.proofs.sums.sums_one_by_one.Goals as goal
+
+pub loop-i-preserved : goal.loop-i-preserved
+loop-i-preserved c = (
+  omega arith,
+  over-map_step (encode c.args.rows.now) c.args.words.now c.loop-i.invariant.1 _ c.loop-i-test.true (omega (arith, c.requires))
+      c.row_sum.ensures,
+)
