@@ -6,8 +6,8 @@ use answers::{Answer, number, value};
 
 // Writes the value beside the number, and answers the number, 0 on success.
 pub fn tell(a: Answer, beside: &mut usize) -> u32
-    ensures value { result ≡ number_in a }
-    ensures beside_after { beside.new ≡ value_in a }
+    ensures number { result ≡ number_in a }
+    ensures value { beside.new ≡ value_in a }
 {
     let Answer::Refused(c) = a else {
         *beside = 0;
