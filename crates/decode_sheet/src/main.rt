@@ -1,6 +1,6 @@
 // Reads one code sheet from standard input and prints the decoded words, or the one line of a refusal.
 #![tactic(auto)]
 
-fn main() {
-    sheet_program::standard::decode_standard_input();
+fn main(rt: HostRuntime) {
+    sheet_program::standard::decode_standard_input(&rt);
 }

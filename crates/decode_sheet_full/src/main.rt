@@ -1,6 +1,6 @@
 // decode_sheet on the most words of the most places, so that its output is long.
 #![tactic(auto)]
 
-fn main() {
-    sheet_program::standard::decode_standard_input();
+fn main(rt: HostRuntime) {
+    sheet_program::standard::decode_standard_input(&rt);
 }

@@ -7,36 +7,36 @@ use encoder::{encode, message};
 use outcomes::Reading;
 
 // Encode or Message, and the slots lent to it.
-fn coded(operation: u8, n: u32, k: u32, rows: &[u32], words: &[u32]) {
+fn coded(rt: &(impl Input + Print), operation: u8, n: u32, k: u32, rows: &[u32], words: &[u32]) {
     let mut out = [UNUSED; SLOTS];
-    let size = records::slots(&out);
+    let size = records::slots(rt, &out);
     let lent = &mut out[..size];
     if operation == 20 {
-        answer(encode(n, k, rows, words, lent));
+        answer(rt, encode(n, k, rows, words, lent));
     } else {
-        answer(message(n, k, rows, words, lent));
+        answer(rt, message(n, k, rows, words, lent));
     }
-    print::list(lent, UNUSED);
+    print::list(rt, lent, UNUSED);
 }
 
 // Operation 24 decodes on lists that an earlier Decode left: its rows were the words, its words the rows.
-fn decoded(operation: u8, n: u32, k: u32, rows: &[u32], reading: Reading, words: &[u32]) {
+fn decoded(rt: &(impl Input + Print), operation: u8, n: u32, k: u32, rows: &[u32], reading: Reading, words: &[u32]) {
     let mut out = [UNUSED; SLOTS];
     let mut counts = [UNUSED_COUNT; SLOTS];
     let mut work = [UNUSED_ENTRY; ENTRIES];
-    let slots = records::slots(&out);
-    let bytes = io::count(number() as isize, &counts);
-    let room = records::slots(&work);
+    let slots = records::slots(rt, &out);
+    let bytes = io::count(number(rt) as isize, &counts);
+    let room = records::slots(rt, &work);
     let a = &mut out[..slots];
     let b = &mut counts[..bytes];
     let c = &mut work[..room];
     if operation == 24 {
         decode(n, k, words, reading, rows, a, b, c);
     }
-    answer(decode(n, k, rows, reading, words, a, b, c));
-    print::list(a, UNUSED);
-    print::counts(b);
-    print::list(c, UNUSED_ENTRY);
+    answer(rt, decode(n, k, rows, reading, words, a, b, c));
+    print::list(rt, a, UNUSED);
+    print::counts(rt, b);
+    print::list(rt, c, UNUSED_ENTRY);
 }
 
 // The reading that the operation names.
@@ -49,13 +49,13 @@ fn reading(operation: u8, radius: u32) -> Reading {
 }
 
 // The words follow the matrix in the record, then the number of slots of each lent list.
-pub(crate) fn call(operation: u8, n: u32, k: u32, x: u32, rows: &[u32]) {
+pub(crate) fn call(rt: &(impl Input + Print), operation: u8, n: u32, k: u32, x: u32, rows: &[u32]) {
     let mut buffer = [0u32; SLOTS];
-    let size = records::list(&mut buffer);
+    let size = records::list(rt, &mut buffer);
     let words = &buffer[..size];
     if operation < 22 {
-        coded(operation, n, k, rows, words);
+        coded(rt, operation, n, k, rows, words);
     } else {
-        decoded(operation, n, k, rows, reading(operation, x), words);
+        decoded(rt, operation, n, k, rows, reading(operation, x), words);
     }
 }

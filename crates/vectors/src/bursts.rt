@@ -7,7 +7,7 @@ use crate::records::{ENTRIES, SLOTS, number, wide};
 use interleaving::{decode, interleave};
 use words::word::place;
 
-#[derive(Drop)]
+#[derive(Clone, Copy)]
 struct Code {
     n: u32,
     k: u32,
@@ -16,21 +16,21 @@ struct Code {
 }
 
 // The number of the window's first bit, and a word with a one for each changed bit of the window.
-#[derive(Drop)]
+#[derive(Clone, Copy)]
 struct Burst {
     first: u32,
     pattern: u32,
 }
 
 // The patterns from the lowest on, below the limit.
-#[derive(Drop)]
+#[derive(Clone, Copy)]
 struct Patterns {
     lowest: u32,
     limit: u32,
 }
 
 // How many bursts there were, and how many were mended.
-#[derive(Drop)]
+#[derive(Clone, Copy)]
 struct Tally {
     cases: u32,
     mended: u32,
@@ -41,7 +41,7 @@ fn product(a: u32, b: u32) -> u32 {
     let mut p: u32 = 0;
     let mut i: u32 = 0;
     while i < b {
-        p = std::num::wrapping_add_u32(p, a);
+        p = p.wrapping_add(a);
         i += 1;
     }
     p
@@ -49,7 +49,7 @@ fn product(a: u32, b: u32) -> u32 {
 
 // 1 where bit number b is changed.
 fn hit(burst: Burst, b: u32) -> u32 {
-    place(burst.pattern, std::num::wrapping_sub_u32(b, burst.first))
+    place(burst.pattern, b.wrapping_sub(burst.first))
 }
 
 // How many places of word i are changed: place j travels as bit number depth * j + i.
@@ -58,8 +58,8 @@ fn hits(code: Code, burst: Burst, i: u32) -> u32 {
     let mut b = i;
     let mut j: u32 = 0;
     while j < code.n {
-        count = std::num::wrapping_add_u32(count, hit(burst, b));
-        b = std::num::wrapping_add_u32(b, code.depth);
+        count = count.wrapping_add(hit(burst, b));
+        b = b.wrapping_add(code.depth);
         j += 1;
     }
     count
@@ -129,8 +129,8 @@ fn mends(code: Code, burst: Burst, rows: &[u32], sent: &[u32], bits: &[u8]) -> u
 // The tally with one case more.
 fn counted(tally: Tally, mended: u32) -> Tally {
     Tally {
-        cases: std::num::wrapping_add_u32(tally.cases, 1),
-        mended: std::num::wrapping_add_u32(tally.mended, mended),
+        cases: tally.cases.wrapping_add(1),
+        mended: tally.mended.wrapping_add(mended),
     }
 }
 
@@ -181,22 +181,22 @@ fn patterns_of(width: u32, every: bool) -> Patterns {
         return Patterns { lowest: 0, limit };
     }
     Patterns {
-        lowest: std::num::wrapping_sub_u32(limit, 1),
+        lowest: limit.wrapping_sub(1),
         limit,
     }
 }
 
 // In the record 1 for every pattern, 0 for all ones, follows the words.
-pub(crate) fn call(n: u32, k: u32, radius: u32, rows: &[u32], sent: &[u32]) {
+pub(crate) fn call(rt: &(impl Input + Print), n: u32, k: u32, radius: u32, rows: &[u32], sent: &[u32]) {
     let depth = (sent.len() % 4294967296) as u32;
     let places = product(depth, n);
     let width = product(depth, radius);
-    let patterns = patterns_of(width, number() == 1);
+    let patterns = patterns_of(width, number(rt) == 1);
     let mut buffer = [UNUSED_COUNT; SLOTS];
     let size = io::count(places as isize, &buffer);
     let bits = &mut buffer[..size];
     interleave(n, k, rows, sent, bits);
-    let last = std::num::wrapping_sub_u32(places, width);
+    let last = places.wrapping_sub(width);
     let code = Code {
         n,
         k,
@@ -204,13 +204,13 @@ pub(crate) fn call(n: u32, k: u32, radius: u32, rows: &[u32], sent: &[u32]) {
         depth,
     };
     let t = windows(
-        std::num::wrapping_add_u32(last, 1),
+        last.wrapping_add(1),
         code,
         patterns,
         rows,
         sent,
         bits,
     );
-    item(t.cases);
-    item(t.mended);
+    item(rt, t.cases);
+    item(rt, t.mended);
 }

@@ -16,7 +16,7 @@ fn back(u: u32, codeword: u32) -> u32 {
 }
 
 // How many messages come back, and the digest of all codewords.
-fn messages() {
+fn messages(rt: &impl Print) {
     let mut u: u32 = 0;
     let mut right: u32 = 0;
     let mut h: u32 = 1;
@@ -24,11 +24,11 @@ fn messages() {
         let r = encode(u);
         let c = r.word;
         h = mix(h, c);
-        right = std::num::wrapping_add_u32(right, back(u, c));
+        right = right.wrapping_add(back(u, c));
         u += 1;
     }
-    item(right);
-    item(h);
+    item(rt, right);
+    item(rt, h);
 }
 
 // 1 where the codeword changed by a pattern of weight t is answered as demand 3 has it.
@@ -47,7 +47,7 @@ fn of_weight(codeword: u32, t: u32) -> u32 {
     let mut e: u32 = 0;
     while e < 16777216 {
         if weight(e) == t {
-            n = std::num::wrapping_add_u32(n, right(codeword, e, t));
+            n = n.wrapping_add(right(codeword, e, t));
         }
         e += 1;
     }
@@ -55,11 +55,11 @@ fn of_weight(codeword: u32, t: u32) -> u32 {
 }
 
 // All messages, or all patterns of t places on one codeword.
-pub(crate) fn call(operation: u8, u: u32, t: u32) {
+pub(crate) fn call(rt: &impl Print, operation: u8, u: u32, t: u32) {
     if operation == 33 {
-        messages();
+        messages(rt);
     } else {
         let r = encode(u);
-        item(of_weight(r.word, t));
+        item(rt, of_weight(r.word, t));
     }
 }

@@ -9,33 +9,33 @@ pub(crate) fn joined(high: u32, low: u32) -> u64 {
 }
 
 // Prints a word as its check byte and its data.
-pub(crate) fn word(w: Word) {
-    item(w.check as u32);
-    long(w.data);
+pub(crate) fn word(rt: &impl Print, w: Word) {
+    item(rt, w.check as u32);
+    long(rt, w.data);
 }
 
 // The syndrome, the answer with its count, and the data read back from the word as received.
-fn decoded(w: Word) {
+fn decoded(rt: &impl Print, w: Word) {
     let d = decode(w);
     let c = d.word;
     let r = message(w);
     let a = r.answer;
-    item(syndrome(w) as u32);
-    word(c);
-    item(d.count as u32);
-    answer(a);
-    long(r.data);
+    item(rt, syndrome(w) as u32);
+    word(rt, c);
+    item(rt, d.count as u32);
+    answer(rt, a);
+    long(rt, r.data);
 }
 
 // The operations 40 and 41; the others change places.
-pub(crate) fn call(operation: u8, high: u32, low: u32, x: u32) {
+pub(crate) fn call(rt: &impl Print, operation: u8, high: u32, low: u32, x: u32) {
     let data = joined(high, low);
     match operation {
-        40 => item(encode(data) as u32),
+        40 => item(rt, encode(data) as u32),
         41 => {
             let check = (x % 256) as u8;
-            decoded(Word { check, data });
+            decoded(rt, Word { check, data });
         }
-        _ => hsiao_changes::call(operation == 43, 0, data, x),
+        _ => hsiao_changes::call(rt, operation == 43, 0, data, x),
     }
 }

@@ -5,7 +5,7 @@ use hsiao::decoding::Decoding;
 use hsiao::{Word, decode, encode};
 
 // The width, 0 for the calls of the (72,64) code; the check places, which come first; all places; and 2 to the number of check places.
-#[derive(Drop)]
+#[derive(Clone, Copy)]
 struct Code {
     width: u32,
     checks: u32,
@@ -81,7 +81,7 @@ fn returned(code: Code, w: Word) -> u32 {
     let mut n: u32 = 0;
     let mut p: u32 = 0;
     while p < code.places {
-        n = std::num::wrapping_add_u32(n, answered(code, changed(code, w, p), w, 1));
+        n = n.wrapping_add(answered(code, changed(code, w, p), w, 1));
         p += 1;
     }
     n
@@ -97,7 +97,7 @@ fn far(code: Code, w: Word, first: u32) -> u32 {
     let mut n: u32 = 0;
     let mut p = first;
     while p < code.places {
-        n = std::num::wrapping_add_u32(n, stays(code, changed(code, w, p)));
+        n = n.wrapping_add(stays(code, changed(code, w, p)));
         p += 1;
     }
     n
@@ -108,20 +108,20 @@ fn far_pairs(code: Code, w: Word, first: u32) -> u32 {
     let mut n: u32 = 0;
     let mut p = first;
     while p < code.places {
-        n = std::num::wrapping_add_u32(n, far(code, changed(code, w, p), p + 1));
+        n = n.wrapping_add(far(code, changed(code, w, p), p + 1));
         p += 1;
     }
     n
 }
 
 // Whether the codeword is clean, how many single changes come back, how many pairs are far, and how many triples with place 0.
-fn sent(code: Code, data: u64) {
+fn sent(rt: &impl Print, code: Code, data: u64) {
     let check = check_of(code, data);
     let w = Word { check, data };
-    item(answered(code, w, w, 0));
-    item(returned(code, w));
-    item(far_pairs(code, w, 0));
-    item(far_pairs(code, changed(code, w, 0), 1));
+    item(rt, answered(code, w, w, 0));
+    item(rt, returned(code, w));
+    item(rt, far_pairs(code, w, 0));
+    item(rt, far_pairs(code, changed(code, w, 0), 1));
 }
 
 // 1 where the check beside the data gives this count.
@@ -136,18 +136,18 @@ fn with_count(code: Code, data: u64, count: u32) -> u32 {
     let mut n: u32 = 0;
     let mut check: u32 = 0;
     while check < code.limit {
-        n = std::num::wrapping_add_u32(n, has_count(code, data, check, count));
+        n = n.wrapping_add(has_count(code, data, check, count));
         check += 1;
     }
     n
 }
 
 // The number of checks with this count, or the changes.
-pub(crate) fn call(changes: bool, width: u32, data: u64, count: u32) {
+pub(crate) fn call(rt: &impl Print, changes: bool, width: u32, data: u64, count: u32) {
     let code = code_of(width);
     if changes {
-        sent(code, data);
+        sent(rt, code, data);
     } else {
-        item(with_count(code, data, count));
+        item(rt, with_count(code, data, count));
     }
 }

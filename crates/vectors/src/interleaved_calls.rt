@@ -6,79 +6,79 @@ use crate::{bursts, print, records};
 use interleaving::{decode, deinterleave, interleave};
 
 // Interleave, and the slots lent to it.
-fn sent(n: u32, k: u32, rows: &[u32], words: &[u32]) {
+fn sent(rt: &(impl Input + Print), n: u32, k: u32, rows: &[u32], words: &[u32]) {
     let mut bits = [UNUSED_COUNT; SLOTS];
-    let size = io::count(number() as isize, &bits);
+    let size = io::count(number(rt) as isize, &bits);
     let lent = &mut bits[..size];
-    answer(interleave(n, k, rows, words, lent));
-    print::counts(lent);
+    answer(rt, interleave(n, k, rows, words, lent));
+    print::counts(rt, lent);
 }
 
 // Deinterleave, and the slots lent to it.
-fn sorted(n: u32, k: u32, rows: &[u32], depth: usize, bits: &[u8]) {
+fn sorted(rt: &(impl Input + Print), n: u32, k: u32, rows: &[u32], depth: usize, bits: &[u8]) {
     let mut out = [UNUSED; SLOTS];
-    let size = records::slots(&out);
+    let size = records::slots(rt, &out);
     let lent = &mut out[..size];
-    answer(deinterleave(n, k, rows, depth, bits, lent));
-    print::list(lent, UNUSED);
+    answer(rt, deinterleave(n, k, rows, depth, bits, lent));
+    print::list(rt, lent, UNUSED);
 }
 
 // The decode of interleaved words, and the slots of its three lists.
-fn decoded(n: u32, k: u32, rows: &[u32], radius: u32, depth: usize, bits: &[u8]) {
+fn decoded(rt: &(impl Input + Print), n: u32, k: u32, rows: &[u32], radius: u32, depth: usize, bits: &[u8]) {
     let mut out = [UNUSED; SLOTS];
     let mut counts = [UNUSED_COUNT; SLOTS];
     let mut work = [UNUSED_ENTRY; ENTRIES];
-    let slots = records::slots(&out);
-    let bytes = io::count(number() as isize, &counts);
-    let room = records::slots(&work);
+    let slots = records::slots(rt, &out);
+    let bytes = io::count(number(rt) as isize, &counts);
+    let room = records::slots(rt, &work);
     let a = &mut out[..slots];
     let b = &mut counts[..bytes];
     let c = &mut work[..room];
-    answer(decode(n, k, rows, radius, depth, bits, a, b, c));
-    print::list(a, UNUSED);
-    print::counts(b);
-    print::list(c, UNUSED_ENTRY);
+    answer(rt, decode(n, k, rows, radius, depth, bits, a, b, c));
+    print::list(rt, a, UNUSED);
+    print::counts(rt, b);
+    print::list(rt, c, UNUSED_ENTRY);
 }
 
 // Operations 60 and 63.
-fn sending(operation: u8, n: u32, k: u32, radius: u32, rows: &[u32]) {
+fn sending(rt: &(impl Input + Print), operation: u8, n: u32, k: u32, radius: u32, rows: &[u32]) {
     let mut buffer = [0u32; SLOTS];
-    let size = records::list(&mut buffer);
+    let size = records::list(rt, &mut buffer);
     let words = &buffer[..size];
     if operation == 60 {
-        sent(n, k, rows, words);
+        sent(rt, n, k, rows, words);
     } else {
-        bursts::call(n, k, radius, rows, words);
+        bursts::call(rt, n, k, radius, rows, words);
     }
 }
 
 // The depth of operation 61 is x; that of 62, where x is the radius, follows the matrix.
-fn depth_of(operation: u8, x: u32) -> usize {
+fn depth_of(rt: &impl Input, operation: u8, x: u32) -> usize {
     if operation == 61 {
         x as usize
     } else {
-        number() as usize
+        number(rt) as usize
     }
 }
 
 // Operations 61 and 62.
-fn receiving(operation: u8, n: u32, k: u32, x: u32, rows: &[u32]) {
-    let depth = depth_of(operation, x);
+fn receiving(rt: &(impl Input + Print), operation: u8, n: u32, k: u32, x: u32, rows: &[u32]) {
+    let depth = depth_of(rt, operation, x);
     let mut buffer = [0u8; SLOTS];
-    let size = records::bytes(&mut buffer);
+    let size = records::bytes(rt, &mut buffer);
     let bits = &buffer[..size];
     if operation == 61 {
-        sorted(n, k, rows, depth, bits);
+        sorted(rt, n, k, rows, depth, bits);
     } else {
-        decoded(n, k, rows, x, depth, bits);
+        decoded(rt, n, k, rows, x, depth, bits);
     }
 }
 
 // 61 and 62 read bits; the others words.
-pub(crate) fn call(operation: u8, n: u32, k: u32, x: u32, rows: &[u32]) {
+pub(crate) fn call(rt: &(impl Input + Print), operation: u8, n: u32, k: u32, x: u32, rows: &[u32]) {
     match operation {
-        61 => receiving(operation, n, k, x, rows),
-        62 => receiving(operation, n, k, x, rows),
-        _ => sending(operation, n, k, x, rows),
+        61 => receiving(rt, operation, n, k, x, rows),
+        62 => receiving(rt, operation, n, k, x, rows),
+        _ => sending(rt, operation, n, k, x, rows),
     }
 }

@@ -20,10 +20,10 @@ mod width_calls; // operations of the codes of 16, 32 and 64 data bits
 const MAX_RECORDS: usize = 100000;
 
 // One record after another, until the input ends.
-fn main() {
+fn main(rt: HostRuntime) {
     let mut left = MAX_RECORDS;
     while 0 < left {
-        if !records::record() {
+        if !records::record(&rt) {
             return;
         }
         left -= 1;

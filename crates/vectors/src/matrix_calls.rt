@@ -9,73 +9,73 @@ use sums::row_sum;
 use weights::{describe, weights_of};
 
 // The reduced rows, after the answer.
-fn reduced(n: u32, k: u32, rows: &[u32]) {
+fn reduced(rt: &impl Print, n: u32, k: u32, rows: &[u32]) {
     let r = reduced_rows(n, k, rows);
     let a = r.answer;
     let reduced = r.rows;
-    answer(a);
-    print::rows(&reduced);
+    answer(rt, a);
+    print::rows(rt, &reduced);
 }
 
 // The syndrome of the word, and the check rows.
-fn checked(n: u32, k: u32, rows: &[u32], w: u32) {
+fn checked(rt: &impl Print, n: u32, k: u32, rows: &[u32], w: u32) {
     let c = parity_checks(n, k, rows);
     let a = c.answer;
     let checks = c.rows;
-    answer(a);
-    item(syndrome(&checks, w));
-    print::checks(&checks);
+    answer(rt, a);
+    item(rt, syndrome(&checks, w));
+    print::checks(rt, &checks);
 }
 
 // The minimum distance, the lightest codeword and the counts.
-fn weighed(n: u32, k: u32, rows: &[u32]) {
+fn weighed(rt: &impl Print, n: u32, k: u32, rows: &[u32]) {
     let w = weights_of(n, k, rows);
     let a = w.answer;
     let counts = w.counts;
-    answer(a);
-    item(w.dmin);
-    item(w.lightest);
-    print::weights(&counts);
+    answer(rt, a);
+    item(rt, w.dmin);
+    item(rt, w.lightest);
+    print::weights(rt, &counts);
 }
 
 // The minimum distance, the lightest codeword and the lists.
-fn described(n: u32, k: u32, rows: &[u32]) {
+fn described(rt: &impl Print, n: u32, k: u32, rows: &[u32]) {
     let d = describe(n, k, rows);
     let a = d.answer;
     let reduced = d.rows;
     let checks = d.checks;
     let counts = d.counts;
-    answer(a);
-    item(d.dmin);
-    item(d.lightest);
-    print::rows(&reduced);
-    print::checks(&checks);
-    print::weights(&counts);
+    answer(rt, a);
+    item(rt, d.dmin);
+    item(rt, d.lightest);
+    print::rows(rt, &reduced);
+    print::checks(rt, &checks);
+    print::weights(rt, &counts);
 }
 
 // The number of words tried, the check rows and the list, whose number of slots follows the matrix in the record.
-fn leading(n: u32, k: u32, rows: &[u32]) {
+fn leading(rt: &(impl Input + Print), n: u32, k: u32, rows: &[u32]) {
     let mut work = [UNUSED_ENTRY; ENTRIES];
-    let size = records::slots(&work);
+    let size = records::slots(rt, &work);
     let lent = &mut work[..size];
     let l = leaders_of(n, k, rows, lent);
     let a = l.answer;
     let checks = l.checks;
-    answer(a);
-    item(l.tried);
-    print::checks(&checks);
-    print::list(lent, UNUSED_ENTRY);
+    answer(rt, a);
+    item(rt, l.tried);
+    print::checks(rt, &checks);
+    print::list(rt, lent, UNUSED_ENTRY);
 }
 
 // The operations on a matrix, 10 to 16.
-pub(crate) fn call(operation: u8, n: u32, k: u32, x: u32, rows: &[u32]) {
+pub(crate) fn call(rt: &(impl Input + Print), operation: u8, n: u32, k: u32, x: u32, rows: &[u32]) {
     match operation {
-        10 => answer(accept(n, k, rows)),
-        11 => reduced(n, k, rows),
-        12 => checked(n, k, rows, x),
-        13 => item(row_sum(rows, x)),
-        14 => weighed(n, k, rows),
-        16 => leading(n, k, rows),
-        _ => described(n, k, rows),
+        10 => answer(rt, accept(n, k, rows)),
+        11 => reduced(rt, n, k, rows),
+        12 => checked(rt, n, k, rows, x),
+        13 => item(rt, row_sum(rows, x)),
+        14 => weighed(rt, n, k, rows),
+        16 => leading(rt, n, k, rows),
+        _ => described(rt, n, k, rows),
     }
 }

@@ -3,7 +3,6 @@ ghost use Rattle.io.specs.Counts.{IsPrefixLen};
 
 use crate::records::{SLOTS, wide};
 use answers::{Answer, number, value};
-use libc::STDOUT_FILENO;
 use words::limits::{MAX_CHECKS, MAX_ROWS, WEIGHT_SLOTS};
 
 // What every slot holds that is lent to a call: of the codewords, of the counts, of the working list.
@@ -14,25 +13,25 @@ pub(crate) const UNUSED_COUNT: u8 = 77;
 pub(crate) const UNUSED_ENTRY: u32 = 7777;
 
 // A text.
-pub(crate) fn text(t: &[u8]) {
-    io::write_all(STDOUT_FILENO, t);
+pub(crate) fn text(rt: &impl Print, t: &[u8]) {
+    let _ = rt.write_all(t);
 }
 
 // A blank and the number.
-pub(crate) fn long(x: u64) {
-    text(b" ");
-    io::print_decimal(STDOUT_FILENO, x);
+pub(crate) fn long(rt: &impl Print, x: u64) {
+    text(rt, b" ");
+    let _ = print!(rt; "{x}");
 }
 
 // A number after a blank.
-pub(crate) fn item(x: u32) {
-    long(x as u64);
+pub(crate) fn item(rt: &impl Print, x: u32) {
+    long(rt, x as u64);
 }
 
 // A name and a number.
-pub(crate) fn part(name: &[u8], x: u32) {
-    text(name);
-    item(x);
+pub(crate) fn part(rt: &impl Print, name: &[u8], x: u32) {
+    text(rt, name);
+    item(rt, x);
 }
 
 // 1 where it holds.
@@ -41,21 +40,21 @@ pub(crate) fn flag(yes: bool) -> u32 {
 }
 
 // "done", or "refused", the number and the value beside it.
-pub(crate) fn answer(a: Answer) {
+pub(crate) fn answer(rt: &impl Print, a: Answer) {
     match a {
-        Answer::Done => text(b" done"),
+        Answer::Done => text(rt, b" done"),
         Answer::Refused(r) => {
-            part(b" refused", number(r));
-            long(value(r) as u64);
+            part(rt, b" refused", number(r));
+            long(rt, value(r) as u64);
         }
     }
 }
 
 // The numbers of a list.
-fn items(xs: &[u32]) {
+fn items(rt: &impl Print, xs: &[u32]) {
     let mut i: usize = 0;
     while i < xs.len() {
-        item(xs[i]);
+        item(rt, xs[i]);
         i += 1;
     }
 }
@@ -67,26 +66,26 @@ pub(crate) fn mix(h: u32, x: u32) -> u32 {
 
 // How many slots keep the mark, and the digest, a number that depends on every slot and on their order: h * 31 + slot modulo 2^32, from
 // 1 on.
-fn summary(xs: &[u32], mark: u32) {
+fn summary(rt: &impl Print, xs: &[u32], mark: u32) {
     let mut kept: u32 = 0;
     let mut h: u32 = 1;
     let mut i: usize = 0;
     while i < xs.len() {
-        kept = std::num::wrapping_add_u32(kept, flag(xs[i] == mark));
+        kept = kept.wrapping_add(flag(xs[i] == mark));
         h = mix(h, xs[i]);
         i += 1;
     }
-    part(b" kept", kept);
-    item(h);
+    part(rt, b" kept", kept);
+    item(rt, h);
 }
 
 // A list lent with this mark in every slot: its slots, or of more than 40 the summary.
-pub(crate) fn list(xs: &[u32], mark: u32) {
-    text(b",");
+pub(crate) fn list(rt: &impl Print, xs: &[u32], mark: u32) {
+    text(rt, b",");
     if xs.len() <= 40 {
-        items(xs);
+        items(rt, xs);
     } else {
-        summary(xs, mark);
+        summary(rt, xs, mark);
     }
 }
 
@@ -106,26 +105,26 @@ fn widen(bytes: &[u8], list: &mut [u32]) -> usize
 }
 
 // A list of counts, in the same way.
-pub(crate) fn counts(bytes: &[u8]) {
+pub(crate) fn counts(rt: &impl Print, bytes: &[u8]) {
     let mut xs = [0u32; SLOTS];
     let size = widen(bytes, &mut xs);
-    list(&xs[..size], UNUSED_COUNT as u32);
+    list(rt, &xs[..size], UNUSED_COUNT as u32);
 }
 
 // Every entry of the reduced rows.
-pub(crate) fn rows(xs: &[u32; MAX_ROWS]) {
-    text(b", rows");
-    items(xs);
+pub(crate) fn rows(rt: &impl Print, xs: &[u32; MAX_ROWS]) {
+    text(rt, b", rows");
+    items(rt, xs);
 }
 
 // Every entry of the check rows.
-pub(crate) fn checks(xs: &[u32; MAX_CHECKS]) {
-    text(b", checks");
-    items(xs);
+pub(crate) fn checks(rt: &impl Print, xs: &[u32; MAX_CHECKS]) {
+    text(rt, b", checks");
+    items(rt, xs);
 }
 
 // Every entry of the weight counts.
-pub(crate) fn weights(xs: &[u32; WEIGHT_SLOTS]) {
-    text(b", weights");
-    items(xs);
+pub(crate) fn weights(rt: &impl Print, xs: &[u32; WEIGHT_SLOTS]) {
+    text(rt, b", weights");
+    items(rt, xs);
 }

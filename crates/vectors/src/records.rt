@@ -7,7 +7,7 @@ use crate::{
     batch_calls, golay_calls, hsiao_calls, interleaved_calls, matrix_calls, number_calls, print,
     width_calls,
 };
-use libc::STDIN_FILENO;
+use streams::read_full;
 
 // The most entries of a list, and of a working list.
 pub(crate) const SLOTS: usize = 600;
@@ -22,69 +22,69 @@ pub(crate) fn wide(x: u8) -> u32
 }
 
 // The next byte of the input.
-fn byte() -> u8 {
+fn byte(rt: &impl Input) -> u8 {
     let mut b = [0u8; 1];
-    io::read_full(STDIN_FILENO, &mut b);
+    read_full(&mut rt.reader(), &mut b);
     b[0]
 }
 
 // The next number of two bytes, high byte first.
-fn half() -> u32
+fn half(rt: &impl Input) -> u32
     ensures { result < 65536 }
 {
     let mut b = [0u8; 2];
-    io::read_full(STDIN_FILENO, &mut b);
+    read_full(&mut rt.reader(), &mut b);
     wide(b[0]) * 256 + wide(b[1])
 }
 
 // The next number of four bytes, high byte first.
-pub(crate) fn number() -> u32 {
-    let high = half();
-    high * 65536 + half()
+pub(crate) fn number(rt: &impl Input) -> u32 {
+    let high = half(rt);
+    high * 65536 + half(rt)
 }
 
 // A list, at the start of the buffer; answers its length.
-pub(crate) fn list(buffer: &mut [u32]) -> usize
+pub(crate) fn list(rt: &impl Input, buffer: &mut [u32]) -> usize
     ensures { IsPrefixLen result buffer.new }
 {
-    let size = number() as usize;
+    let size = number(rt) as usize;
     if buffer.len() < size {
         return 0;
     }
     let mut i: usize = 0;
     while i < size {
-        buffer[i] = number();
+        buffer[i] = number(rt);
         i += 1;
     }
     size
 }
 
 // A number of one byte.
-fn small() -> u8 {
-    (number() % 256) as u8
+fn small(rt: &impl Input) -> u8 {
+    (number(rt) % 256) as u8
 }
 
 // A list of such numbers, in the same way.
-pub(crate) fn bytes(buffer: &mut [u8]) -> usize
+pub(crate) fn bytes(rt: &impl Input, buffer: &mut [u8]) -> usize
     ensures { IsPrefixLen result buffer.new }
 {
-    let size = number() as usize;
+    let size = number(rt) as usize;
     if buffer.len() < size {
         return 0;
     }
     let mut i: usize = 0;
     while i < size {
-        buffer[i] = small();
+        buffer[i] = small(rt);
         i += 1;
     }
     size
 }
 
 // How many slots of the list are lent.
-pub(crate) fn slots(list: &[u32]) -> usize
+pub(crate) fn slots(rt: &impl Input, list: &[u32]) -> usize
     ensures { IsPrefixLen result list.now }
 {
-    let size = number() as usize;
+    let size = number(rt) as usize;
     if list.len() < size {
         return 0;
     }
@@ -92,38 +92,38 @@ pub(crate) fn slots(list: &[u32]) -> usize
 }
 
 // The operations by their tens.
-fn dispatch(operation: u8, n: u32, k: u32, x: u32, rows: &[u32]) {
+fn dispatch(rt: &(impl Input + Print), operation: u8, n: u32, k: u32, x: u32, rows: &[u32]) {
     match operation / 10 {
-        0 => print::item(number_calls::call(operation, n, k)),
-        1 => matrix_calls::call(operation, n, k, x, rows),
-        2 => batch_calls::call(operation, n, k, x, rows),
-        3 => golay_calls::call(operation, n, k),
-        4 => hsiao_calls::call(operation, n, k, x),
-        5 => width_calls::call(operation, n, k, x, rows),
-        _ => interleaved_calls::call(operation, n, k, x, rows),
+        0 => print::item(rt, number_calls::call(operation, n, k)),
+        1 => matrix_calls::call(rt, operation, n, k, x, rows),
+        2 => batch_calls::call(rt, operation, n, k, x, rows),
+        3 => golay_calls::call(rt, operation, n, k),
+        4 => hsiao_calls::call(rt, operation, n, k, x),
+        5 => width_calls::call(rt, operation, n, k, x, rows),
+        _ => interleaved_calls::call(rt, operation, n, k, x, rows),
     }
 }
 
 // Three numbers and a matrix, and what follows for the operation.
-fn call(operation: u8) {
-    let n = number();
-    let k = number();
-    let x = number();
+fn call(rt: &(impl Input + Print), operation: u8) {
+    let n = number(rt);
+    let k = number(rt);
+    let x = number(rt);
     let mut buffer = [0u32; SLOTS];
-    let size = list(&mut buffer);
-    dispatch(operation, n, k, x, &buffer[..size]);
+    let size = list(rt, &mut buffer);
+    dispatch(rt, operation, n, k, x, &buffer[..size]);
 }
 
 // One record; whether there was one.
-pub(crate) fn record() -> bool {
+pub(crate) fn record(rt: &(impl Input + Print)) -> bool {
     let mut text = [0u8; 16];
-    if io::read_full(STDIN_FILENO, &mut text) == 0 {
+    if read_full(&mut rt.reader(), &mut text) == 0 {
         return false;
     }
-    print::text(&text);
-    let operation = byte();
+    print::text(rt, &text);
+    let operation = byte(rt);
     if operation != 0 {
-        call(operation);
+        call(rt, operation);
     }
     true
 }

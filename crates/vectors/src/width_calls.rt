@@ -6,25 +6,25 @@ use crate::print::{answer, item, long};
 use hsiao::Word;
 
 // The check bits of the data, after the answer.
-fn encoded(width: u32, data: u64) {
+fn encoded(rt: &impl Print, width: u32, data: u64) {
     let e = hsiao::widths::encode(width, data);
     let a = e.answer;
-    answer(a);
-    item(e.check as u32);
+    answer(rt, a);
+    item(rt, e.check as u32);
 }
 
 // The answer with the word and its count, and what is read back from the word as received.
-fn decoded(width: u32, w: Word) {
+fn decoded(rt: &impl Print, width: u32, w: Word) {
     let d = hsiao::widths::decode(width, w);
     let a = d.answer;
     let c = d.word;
-    answer(a);
-    word(c);
-    item(d.count as u32);
+    answer(rt, a);
+    word(rt, c);
+    item(rt, d.count as u32);
     let r = hsiao::widths::message(width, w);
     let b = r.answer;
-    answer(b);
-    long(r.data);
+    answer(rt, b);
+    long(rt, r.data);
 }
 
 // The entry, or 0 where there is none.
@@ -36,16 +36,16 @@ fn beside(list: &[u32]) -> u32 {
 }
 
 // The operations 50 and 51; the others change places.
-pub(crate) fn call(operation: u8, high: u32, low: u32, width: u32, list: &[u32]) {
+pub(crate) fn call(rt: &impl Print, operation: u8, high: u32, low: u32, width: u32, list: &[u32]) {
     let data = joined(high, low);
     let x = beside(list);
-    item(x);
+    item(rt, x);
     match operation {
-        50 => encoded(width, data),
+        50 => encoded(rt, width, data),
         51 => {
             let check = (x % 256) as u8;
-            decoded(width, Word { check, data });
+            decoded(rt, width, Word { check, data });
         }
-        _ => hsiao_changes::call(operation == 53, width, data, x),
+        _ => hsiao_changes::call(rt, operation == 53, width, data, x),
     }
 }

@@ -5,9 +5,9 @@
 ghost use Rattle.std.specs.Prelude.{◌<◌};
 ghost use Rattle.io.specs.Counts.{IsPrefixLen};
 
-use libc::{STDIN_FILENO, STDOUT_FILENO};
 use lines::MAX_OUTPUT;
 use sheet_run::run;
+use streams::read_full;
 
 // More records than the input has.
 const MAX_RECORDS: usize = 100000;
@@ -22,54 +22,59 @@ fn wide(x: u8) -> usize
 }
 
 // The next so many bytes, or none where the buffer is shorter.
-fn read_part(buffer: &mut [u8], size: usize) -> usize
+fn read_part(rt: &impl Input, buffer: &mut [u8], size: usize) -> usize
     ensures { IsPrefixLen result buffer.new }
 {
     if buffer.len() < size {
         return 0;
     }
-    io::read_full(STDIN_FILENO, &mut buffer[..size])
+    read_full(&mut rt.reader(), &mut buffer[..size])
+}
+
+// What is printed is seen in what the program writes: a failed write shows there as missing.
+fn write(rt: &impl Print, bytes: &[u8]) {
+    let _ = rt.write_all(bytes);
 }
 
 // What the run gives for these bytes.
-fn print_run(bytes: &[u8]) {
+fn print_run(rt: &impl Print, bytes: &[u8]) {
     let mut out = [0u8; MAX_OUTPUT];
     let length = run(bytes, &mut out);
-    io::write_all(STDOUT_FILENO, &out[..length]);
+    write(rt, &out[..length]);
 }
 
 // The title on a line of its own; whether there was one.
-fn print_title() -> bool {
+fn print_title(rt: &(impl Input + Print)) -> bool {
     let mut head = [0u8; 1];
-    if io::read_full(STDIN_FILENO, &mut head) == 0 {
+    if read_full(&mut rt.reader(), &mut head) == 0 {
         return false;
     }
     let mut title = [0u8; 256];
-    let got = read_part(&mut title, wide(head[0]));
-    io::write_all(STDOUT_FILENO, &title[..got]);
-    io::write_all(STDOUT_FILENO, b"\n");
+    let got = read_part(rt, &mut title, wide(head[0]));
+    write(rt, &title[..got]);
+    write(rt, b"\n");
     true
 }
 
 // One record; whether there was one.
-fn print_record() -> bool {
-    if !print_title() {
+fn print_record(rt: &(impl Input + Print)) -> bool {
+    if !print_title(rt) {
         return false;
     }
     let mut head = [0u8; 2];
-    io::read_full(STDIN_FILENO, &mut head);
+    read_full(&mut rt.reader(), &mut head);
     let size = wide(head[0]) * 256 + wide(head[1]);
     let mut bytes = [0u8; MAX_BYTES];
-    let got = read_part(&mut bytes, size);
-    print_run(&bytes[..got]);
+    let got = read_part(rt, &mut bytes, size);
+    print_run(rt, &bytes[..got]);
     true
 }
 
 // One record after another, until the input ends.
-fn main() {
+fn main(rt: HostRuntime) {
     let mut left = MAX_RECORDS;
     while 0 < left {
-        if !print_record() {
+        if !print_record(&rt) {
             return;
         }
         left -= 1;
