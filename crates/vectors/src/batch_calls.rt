@@ -20,7 +20,15 @@ fn coded(rt: &(impl Input + Print), operation: u8, n: u32, k: u32, rows: &[u32],
 }
 
 // Operation 24 decodes on lists that an earlier Decode left: its rows were the words, its words the rows.
-fn decoded(rt: &(impl Input + Print), operation: u8, n: u32, k: u32, rows: &[u32], reading: Reading, words: &[u32]) {
+fn decoded(
+    rt: &(impl Input + Print),
+    operation: u8,
+    n: u32,
+    k: u32,
+    rows: &[u32],
+    reading: Reading,
+    words: &[u32],
+) {
     let mut out = [UNUSED; SLOTS];
     let mut counts = [UNUSED_COUNT; SLOTS];
     let mut work = [UNUSED_ENTRY; ENTRIES];

@@ -187,7 +187,14 @@ fn patterns_of(width: u32, every: bool) -> Patterns {
 }
 
 // In the record 1 for every pattern, 0 for all ones, follows the words.
-pub(crate) fn call(rt: &(impl Input + Print), n: u32, k: u32, radius: u32, rows: &[u32], sent: &[u32]) {
+pub(crate) fn call(
+    rt: &(impl Input + Print),
+    n: u32,
+    k: u32,
+    radius: u32,
+    rows: &[u32],
+    sent: &[u32],
+) {
     let depth = (sent.len() % 4294967296) as u32;
     let places = product(depth, n);
     let width = product(depth, radius);
@@ -203,14 +210,7 @@ pub(crate) fn call(rt: &(impl Input + Print), n: u32, k: u32, radius: u32, rows:
         radius,
         depth,
     };
-    let t = windows(
-        last.wrapping_add(1),
-        code,
-        patterns,
-        rows,
-        sent,
-        bits,
-    );
+    let t = windows(last.wrapping_add(1), code, patterns, rows, sent, bits);
     item(rt, t.cases);
     item(rt, t.mended);
 }

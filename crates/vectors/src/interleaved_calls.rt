@@ -24,7 +24,15 @@ fn sorted(rt: &(impl Input + Print), n: u32, k: u32, rows: &[u32], depth: usize,
 }
 
 // The decode of interleaved words, and the slots of its three lists.
-fn decoded(rt: &(impl Input + Print), n: u32, k: u32, rows: &[u32], radius: u32, depth: usize, bits: &[u8]) {
+fn decoded(
+    rt: &(impl Input + Print),
+    n: u32,
+    k: u32,
+    rows: &[u32],
+    radius: u32,
+    depth: usize,
+    bits: &[u8],
+) {
     let mut out = [UNUSED; SLOTS];
     let mut counts = [UNUSED_COUNT; SLOTS];
     let mut work = [UNUSED_ENTRY; ENTRIES];
