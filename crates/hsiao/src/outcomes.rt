@@ -8,7 +8,7 @@ use crate::syndromes::syndrome;
 use crate::word::Word;
 
 // Clean: no error; mended: corrected in so many places; far: a decoding failure, two errors being detected.
-#[derive(Drop)]
+#[derive(Clone, Copy)]
 pub enum Outcome {
     Clean(Word),
     Mended(Word, u8),
