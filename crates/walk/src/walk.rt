@@ -55,8 +55,8 @@ pub fn block_weights(block: &[u32], base: u32, weights: &mut [u32])
 // Counts each weight once more for each word that has it.
 fn tally(weights: &[u32], counts: &mut [u32; WEIGHT_SLOTS])
     requires counts_len { length counts.old ≡ weight_slots }
-    requires by_index { (i : ℕ) → i < length weights.now → get_or weights.now i 0 < weight_slots }
-    requires by_index_2 { (j : ℕ) → get_or counts.old j 0 + length weights.now < 2 ^ 32 }
+    requires light { (i : ℕ) → i < length weights.now → get_or weights.now i 0 < weight_slots }
+    requires room { (j : ℕ) → get_or counts.old j 0 + length weights.now < 2 ^ 32 }
     ensures { Tallied weights.now counts.old counts.new }
 {
     let mut i: usize = 0;
@@ -115,7 +115,7 @@ fn kept(w: u32, x: u32, least: u32, y: u32) -> u32
 fn walk_block(block: &[u32], base: u32, weights: &mut [u32], walk: Walk) -> Walk
     requires weights_len { length weights.old ≡ length block.now }
     requires counts_len { (length walk.counts ≡ weight_slots) × (walk.least ≡ least_of walk.counts) }
-    requires by_index { (j : ℕ) → get_or walk.counts j 0 + length block.now < 2 ^ 32 }
+    requires room { (j : ℕ) → get_or walk.counts j 0 + length block.now < 2 ^ 32 }
     ensures { BlockWalked block.now base walk result × (length weights.new ≡ length weights.old) }
 {
     block_weights(block, base, weights);
