@@ -141,7 +141,7 @@ def could_not_run(files):
     missing, no_program = os.path.join(files.directory, 'missing'), files.put('no_program', 'text')
     no_format = files.put('no_format', '\0', 0o755)
     for case, where, message in (
-            ('missing', missing, '%s does not exist; in %s build it: rt check decode_sheet' % (missing, ROOT)),
+            ('missing', missing, '%s does not exist; in %s build it: tools/build' % (missing, ROOT)),
             ('not executable', no_program, no_program + ' cannot be run: Permission denied'),
             ('a directory', files.directory, files.directory + ' cannot be run: Permission denied'),
             ('no format', no_format, no_format + ' cannot be run: Exec format error')):
