@@ -41,7 +41,7 @@ closing_parts t = simp append_assoc
 
 pub length_digits : (n w : ℕ) → length (digits_of n w) ≡ n
 unfolding digits_of
-length_digits n w = length-tabulate (λ i. digit (bit w i)) n
+length_digits n w = length-tabulate _ n
 
 -- after the digits
 pub digits_end : (n w : ℕ) {before : List ℕ} {at : ℕ} {after : List ℕ} {next : ℕ} → Appends before at (digits_of n w) after next
@@ -50,7 +50,7 @@ digits_end n w A = omega (arith, length_digits n w)
 
 pub digit_of : (n w p : ℕ) → p < n → get_or (digits_of n w) p 0 ≡ digit (bit w p)
 unfolding digits_of
-digit_of n w p h = get_d_tabulate (λ i. digit (bit w i)) n p h
+digit_of n w p h = get_d_tabulate _ n p h
 
 -- a line more
 slot_lines-suc : (n i : ℕ) (cs ds : List ℕ) → i < length cs → i < length ds
