@@ -40,8 +40,7 @@ no_radius (Byte b) (inr e) = absurd (omega (arith, e))
 no_radius (Words span) h = refl
 
 -- some content: the field was read
-pub some_content : (x : Content) → OneOf (1 ∷ 2 ∷ []) (tag_of the_type x) → (at tag next : ℕ) → Got tag x next ≡ gotten x at tag next
-some_content Absent (inl e) at tag next = absurd (omega (arith, e))
-some_content Absent (inr e) at tag next = absurd (omega (arith, e))
+pub some_content : (x : Content) → (x ≡ Absent → ⊥) → (at tag next : ℕ) → Got tag x next ≡ gotten x at tag next
+some_content Absent h at tag next = absurd (h refl)
 some_content (Byte b) h at tag next = refl
 some_content (Words span) h at tag next = refl

@@ -5,7 +5,7 @@ ghost use Rattle.sheet.specs.Fault.{number_of, value_of};
 use outcomes::Reading;
 
 // So many words of four bytes each in the bytes of a sheet, from a position on.
-#[derive(Drop)]
+#[derive(Clone, Copy)]
 pub struct Span {
     pub at: usize,
     pub count: usize,
@@ -22,7 +22,7 @@ pub struct Sheet {
 }
 
 // Layout: cut, too long or a wrong field length. Tag: unknown, not rising or missing. Each holds the byte position.
-#[derive(Drop)]
+#[derive(Clone, Copy)]
 pub enum Fault {
     Layout(usize),
     Tag(usize),

@@ -8,7 +8,7 @@ use crate::answer::{Fault, Span};
 pub(crate) const MAX_TAG: u8 = 5;
 
 // What a tag has: one byte, or words. Absent: no such field, or none of that length.
-#[derive(Drop)]
+#[derive(Clone, Copy)]
 pub(crate) enum Content {
     Absent,
     Byte(u8),
@@ -16,7 +16,7 @@ pub(crate) enum Content {
 }
 
 // A field that was read, with its tag, its content and where the next field begins; or why it cannot be read.
-#[derive(Drop)]
+#[derive(Clone, Copy)]
 pub(crate) enum Field {
     Got(u8, Content, usize),
     Bad(Fault),
