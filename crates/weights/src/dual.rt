@@ -40,7 +40,7 @@ fn shifted(a: &[u64; WEIGHT_SLOTS], b: &[u64; WEIGHT_SLOTS]) -> [u64; WEIGHT_SLO
 
 // The entries of a, each with the entry of b so many times.
 fn added(a: &[u64; WEIGHT_SLOTS], times: u64, b: &[u64; WEIGHT_SLOTS]) -> [u64; WEIGHT_SLOTS]
-    requires by_index { ((j : ℕ) → get_or a.now j 0 < 2 ^ 51) × (times ≤ 4096) × ((j : ℕ) → get_or b.now j 0 ≤ 2 ^ 33) }
+    requires small { ((j : ℕ) → get_or a.now j 0 < 2 ^ 51) × (times ≤ 4096) × ((j : ℕ) → get_or b.now j 0 ≤ 2 ^ 33) }
     requires a_len { (length a.now ≡ weight_slots) × (length b.now ≡ weight_slots) }
     ensures { result ≡ slots (λ j. get_or a.now j 0 + times * get_or b.now j 0) }
 {
@@ -78,7 +78,7 @@ fn overlap_counts(n: usize, counts: &[u32; WEIGHT_SLOTS]) -> Overlaps
 // The differences of the entries, without their low places.
 fn quotients(even: &[u64; WEIGHT_SLOTS], odd: &[u64; WEIGHT_SLOTS], low: u32) -> [u32; WEIGHT_SLOTS]
     requires even_len { (length even.now ≡ weight_slots) × (length odd.now ≡ weight_slots) × (low < width) }
-    requires by_index { (j : ℕ) → j < weight_slots → (get_or odd.now j 0 ≤ get_or even.now j 0)
+    requires fits { (j : ℕ) → j < weight_slots → (get_or odd.now j 0 ≤ get_or even.now j 0)
         × ((get_or even.now j 0 - get_or odd.now j 0) / 2 ^ low < 2 ^ 32) }
     ensures { result ≡ slots (λ j. (get_or even.now j 0 - get_or odd.now j 0) / 2 ^ low) }
 {
