@@ -84,8 +84,8 @@ fn look_up(leaders: &[u32], list: &mut [u32])
 // Each leader becomes the codeword of the word beside it, and its count is written.
 fn correct(reading: Reading, words: &[u32], out: &mut [u32], counts: &mut [u8])
     requires { (length out.old ≡ length words.now) × (length counts.old ≡ length words.now) }
-    ensures out_after { out.new ≡ words_with reading words.now out.old }
-    ensures counts_after { counts.new ≡ counts_with reading words.now out.old }
+    ensures codewords { out.new ≡ words_with reading words.now out.old }
+    ensures counts { counts.new ≡ counts_with reading words.now out.old }
 {
     let mut i: usize = 0;
     while i < words.len() {
@@ -105,10 +105,10 @@ fn answer_words(
     out: &mut [u32],
     counts: &mut [u8],
 )
-    requires out_len { (length out.old ≡ length words.now) × (length counts.old ≡ length words.now) }
-    requires by_index { (i : ℕ) → i < length out.old → get_or out.old i 0 < length leaders.now }
-    ensures out_after { out.new ≡ words_with reading words.now (map (λ s. get_or leaders.now s 0) out.old) }
-    ensures counts_after { counts.new ≡ counts_with reading words.now (map (λ s. get_or leaders.now s 0) out.old) }
+    requires lengths { (length out.old ≡ length words.now) × (length counts.old ≡ length words.now) }
+    requires syndromes { (i : ℕ) → i < length out.old → get_or out.old i 0 < length leaders.now }
+    ensures codewords { out.new ≡ words_with reading words.now (map (λ s. get_or leaders.now s 0) out.old) }
+    ensures counts { counts.new ≡ counts_with reading words.now (map (λ s. get_or leaders.now s 0) out.old) }
 {
     look_up(leaders, out);
     correct(reading, words, out, counts);
@@ -125,12 +125,12 @@ fn decode_words(
     out: &mut [u32],
     counts: &mut [u8],
 )
-    requires words_in_bounds { (length words.now ≤ length out.old) × (length words.now ≤ length counts.old) }
-    requires by_index { (i : ℕ) → i < length words.now → syndrome (take c checks.now) (get_or words.now i 0) < length leaders.now }
-    ensures out_after { out.new
+    requires room { (length words.now ≤ length out.old) × (length words.now ≤ length counts.old) }
+    requires syndromes { (i : ℕ) → i < length words.now → syndrome (take c checks.now) (get_or words.now i 0) < length leaders.now }
+    ensures codewords { out.new
         ≡ map (word_by reading leaders.now (take c checks.now)) words.now
         ++ drop (length words.now) out.old }
-    ensures counts_after { counts.new
+    ensures counts { counts.new
         ≡ map (count_by reading leaders.now (take c checks.now)) words.now
         ++ drop (length words.now) counts.old }
 {
