@@ -15,7 +15,6 @@ use Rattle.outcomes.specs.declared.ending.Reading.{Reading}
 use Rattle.decoder.specs.Causes.{decode_answer}
 use Rattle.decoder.proofs.DecodeCauseLaws.{refused_number, decode_passes}
 use Rattle.sheet.specs.Words.{words_in}
-use Rattle.sheet.specs.declared.answer.SheetAnswer.TheVariants as reading
 use Rattle.sheet.proofs.SpanLaws.{words_inside}
 use Rattle.lines.specs.Decimal.{decimal}
 use Rattle.lines.specs.Text.{written, space}
