@@ -1,5 +1,4 @@
 -- `vectors::main` is safe and ends.
-use Rattle.std.proofs.Common.{◌≡◌, ℕ, ◌+◌, ◌-◌, ◌*◌, ◌<◌, ◌≤◌, length}
 use Rattle.vectors.proofs.main.Given as goal
 
 abbrev pub decreases-loop-left : goal.decreases-loop-left

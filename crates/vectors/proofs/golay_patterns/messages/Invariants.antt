@@ -1,5 +1,5 @@
 -- `vectors::golay_patterns::messages` is safe and ends.
-use Rattle.std.proofs.Common.{◌-◌, ◌≡◌, ℕ, ◌+◌, ◌*◌, ◌<◌, ◌≤◌, length}
+use Rattle.std.proofs.Common.{◌-◌}
 use Rattle.vectors.proofs.golay_patterns.messages.Given as goal
 
 abbrev pub decreases-loop-u : goal.decreases-loop-u

@@ -1,6 +1,5 @@
 -- `vectors::print::items` is safe and ends.
-use Rattle.std.proofs.Common.{length, ◌-◌, ◌≡◌, ℕ, ◌+◌, ◌*◌, ◌<◌, ◌≤◌}
-use Rattle.io.specs.Counts.{IsPrefixLen}
+use Rattle.std.proofs.Common.{length, ◌-◌}
 use Rattle.vectors.proofs.print.items.Given as goal
 
 abbrev pub decreases-loop-i : goal.decreases-loop-i
