@@ -19,8 +19,8 @@ pub extern "C" fn relay_hsiao_encode(bits: u64) -> u8
 #[unsafe(no_mangle)]
 pub extern "C" fn relay_hsiao_decode(check: &mut u8, bits: &mut u64) -> u8
     ensures { Decoded
-        (record { check = check.entry.now; «data» = bits.old })
-        (record { word = record { check = check.exit.now; «data» = bits.new }; count = result }) }
+        (record { check = check.old; «data» = bits.old })
+        (record { word = record { check = check.new; «data» = bits.new }; count = result }) }
 {
     let w = Word {
         check: *check,

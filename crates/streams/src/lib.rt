@@ -6,8 +6,8 @@ ghost use Rattle.std.specs.Io.KnownBytes.{Consumes};
 
 use std::io::Read;
 
-// Reads until the buffer is full, the input ends or a read fails, and answers how many bytes it put at the start of the buffer. The
-// bytes are those that came next.
+// Reads until the buffer is full, the input ends or a read fails, and answers how many bytes it put at the start of the buffer. Where the
+// input's bytes are known, these are the next. How far it reads is not promised: no clause can tell a read that fails.
 pub fn read_full<R: Read>(input: &mut R, buffer: &mut [u8]) -> usize
     ensures within { (result ≤ length buffer.new) × (result ≡ length (take result buffer.new)) }
     ensures bytes { Consumes (R.remaining input.old) (R.remaining input.new) (take result buffer.new) }
