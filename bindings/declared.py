@@ -76,7 +76,7 @@ def library_parameters(text, sizes):
 
 def library_functions(text, sizes):
     text = re.sub(r'//.*', '', text)
-    found = re.findall(r'#\[no_mangle\]\s*pub extern "C" fn (\w+)\(([^)]*)\) -> (\w+)\s', text)
+    found = re.findall(r'#\[unsafe\(no_mangle\)\]\s*pub extern "C" fn (\w+)\(([^)]*)\) -> (\w+)\s', text)
     if not len(found) == text.count('no_mangle') == text.count('extern'):
         raise Unreadable('%d of %d exported functions can be read' % (len(found), text.count('no_mangle')))
     return {name: Function(tuple(p for part in parts(listed) for p in library_parameters(part, sizes)), known(result))
