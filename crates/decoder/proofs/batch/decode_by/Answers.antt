@@ -18,7 +18,15 @@ use Rattle.judging.proofs.CauseLaws.{accepted_past, known_checks}
 use Rattle.decoder.specs.Decoded.{Batch, Lent}
 use Rattle.decoder.proofs.DecodeCauseLaws.{at_eight, at_work}
 use Rattle.decoder.proofs.DecodePromiseLaws.{answer_to, decode_refused, words_fit, syndromes_fit, decode_ends}
+use Rattle.decoder.proofs.batch.decode_by.Goals.{After-known_past_8-c}
 use Rattle.decoder.proofs.batch.decode_by.Goals as goal
+
+-- what is decoded, and the lists lent
+abbrev batch : After-known_past_8-c → Batch
+batch c = let a = c.args in record { n = a.n; k = a.k; rows = a.rows.now; reading = a.reading; words = a.words.now }
+
+abbrev lent : After-known_past_8-c → Lent
+lent c = let a = c.args in record { codewords = a.out.now; counts = a.counts.now; work = a.work.now }
 
 -- causes 1 to 8
 abbrev first_eight : Batch → Lent → Answer
@@ -59,51 +67,33 @@ returns-in_default-clause-decoded c =
     (e ∙ at_eight a.n a.k a.rows.now a.reading a.words.now _ _ _ _ (sym c.known_past_8-c.ensures.answer ∙ r)) _ refl
 
 pub overflow_sub-n : goal.overflow_sub-n
-overflow_sub-n c =
-    let a = c.args in
-    let B : Batch = record { n = a.n; k = a.k; rows = a.rows.now; reading = a.reading; words = a.words.now } in
-    let L : Lent = record { codewords = a.out.now; counts = a.counts.now; work = a.work.now } in
-    let K = c.known_past_8-c.ensures in
-    let d = c.in-Done.is in
-    (checked B L K d).0
+overflow_sub-n c = let p = (goal.at.overflow_sub-n c).After-known_past_8-c in (checked (batch p) (lent p) c.known_past_8-c.ensures c.in-Done.is).0
 
 pub returns-then-fill_leaders-eq0-clause-decoded : goal.returns-then-fill_leaders-eq0-clause-decoded
 returns-then-fill_leaders-eq0-clause-decoded c =
-    let a = c.args in
-    let B : Batch = record { n = a.n; k = a.k; rows = a.rows.now; reading = a.reading; words = a.words.now } in
-    let L : Lent = record { codewords = a.out.now; counts = a.counts.now; work = a.work.now } in
+    let p = (goal.at.returns-then-fill_leaders-eq0-clause-decoded c).After-known_past_8-c in
+    let B = batch p in
+    let L = lent p in
     let K = c.known_past_8-c.ensures in
     let d = c.in-Done.is in
     let none = c.if-fill_leaders-eq0.true in
     let e = c.unmeasured-then-fill_leaders-eq0.ensures.0 in
     let F = c.fill_leaders.ensures in
     decode_refused B L (λ i h. (c.type_inv.rows i).fits, λ i h. (c.type_inv.words i).fits) _ _ e
-    (e ∙ (sym (work_short a.n a.k a.rows.now (accepted B L K d) F none) ∙ at_work a.n a.k a.rows.now a.reading a.words.now _ _ _ (sym K.answer ∙ d))) _
-    (ap (λ (l : List ℕ). record { codewords = a.out.now; counts = a.counts.now; work = l }) (list_kept F none))
+    (e ∙ (sym (work_short B.n B.k B.rows (accepted B L K d) F none) ∙ at_work B.n B.k B.rows B.reading B.words _ _ _ (sym K.answer ∙ d))) _
+    (ap (λ (l : List ℕ). record { codewords = L.codewords; counts = L.counts; work = l }) (list_kept F none))
 
 pub overflow_sub-size : goal.overflow_sub-size
-overflow_sub-size c =
-    let a = c.args in
-    let B : Batch = record { n = a.n; k = a.k; rows = a.rows.now; reading = a.reading; words = a.words.now } in
-    let L : Lent = record { codewords = a.out.now; counts = a.counts.now; work = a.work.now } in
-    let K = c.known_past_8-c.ensures in
-    let d = c.in-Done.is in
-    (checked B L K d).0
+overflow_sub-size c = let p = (goal.at.overflow_sub-size c).After-known_past_8-c in (checked (batch p) (lent p) c.known_past_8-c.ensures c.in-Done.is).0
 
 pub overflow_sub-n-2 : goal.overflow_sub-n-2
-overflow_sub-n-2 c =
-    let a = c.args in
-    let B : Batch = record { n = a.n; k = a.k; rows = a.rows.now; reading = a.reading; words = a.words.now } in
-    let L : Lent = record { codewords = a.out.now; counts = a.counts.now; work = a.work.now } in
-    let K = c.known_past_8-c.ensures in
-    let d = c.in-Done.is in
-    (checked B L K d).0
+overflow_sub-n-2 c = let p = (goal.at.overflow_sub-n-2 c).After-known_past_8-c in (checked (batch p) (lent p) c.known_past_8-c.ensures c.in-Done.is).0
 
 pub decode_words-requires-clause-room : goal.decode_words-requires-clause-room
 decode_words-requires-clause-room c =
-    let a = c.args in
-    let B : Batch = record { n = a.n; k = a.k; rows = a.rows.now; reading = a.reading; words = a.words.now } in
-    let L : Lent = record { codewords = a.out.now; counts = a.counts.now; work = a.work.now } in
+    let p = (goal.at.decode_words-requires-clause-room c).After-known_past_8-c in
+    let B = batch p in
+    let L = lent p in
     let K = c.known_past_8-c.ensures in
     let d = c.in-Done.is in
     let F = c.fill_leaders.ensures in
@@ -112,9 +102,9 @@ decode_words-requires-clause-room c =
 
 pub decode_words-requires-clause-syndromes : goal.decode_words-requires-clause-syndromes
 decode_words-requires-clause-syndromes c =
-    let a = c.args in
-    let B : Batch = record { n = a.n; k = a.k; rows = a.rows.now; reading = a.reading; words = a.words.now } in
-    let L : Lent = record { codewords = a.out.now; counts = a.counts.now; work = a.work.now } in
+    let p = (goal.at.decode_words-requires-clause-syndromes c).After-known_past_8-c in
+    let B = batch p in
+    let L = lent p in
     let K = c.known_past_8-c.ensures in
     let d = c.in-Done.is in
     let F = c.fill_leaders.ensures in
@@ -123,9 +113,9 @@ decode_words-requires-clause-syndromes c =
 
 pub returns-clause-decoded : goal.returns-clause-decoded
 returns-clause-decoded c =
-    let a = c.args in
-    let B : Batch = record { n = a.n; k = a.k; rows = a.rows.now; reading = a.reading; words = a.words.now } in
-    let L : Lent = record { codewords = a.out.now; counts = a.counts.now; work = a.work.now } in
+    let p = (goal.at.returns-clause-decoded c).After-known_past_8-c in
+    let B = batch p in
+    let L = lent p in
     let K = c.known_past_8-c.ensures in
     let d = c.in-Done.is in
     let F = c.fill_leaders.ensures in
