@@ -1,10 +1,15 @@
 -- 01, "Causes and numbers", and 02, No. 3 and No. 5: the number of each cause, the value beside it, and what a refusal leaves in a lent list.
-use Rattle.std.specs.Prelude.{◌≡◌, ◌≢◌, List, ◌++◌, Bool, true, false, ℕ, ◌≤◌, eqb, length, drop}
+use Rattle.std.specs.Prelude.{◌≡◌, ◌≢◌, List, ◌++◌, Bool, true, false, ℕ, ◌≤◌, eqb, length, drop, Result, Ok, Err}
 use Rattle.coding.specs.Lists.{first}
 use Rattle.answers.specs.declared.answer.Refusal.{Refusal}
 use Rattle.answers.specs.declared.answer.Refusal.TheVariants.{OutOfRange, RowCount, RowOutside, Dependent, RadiusTooLarge, TooManyWords, WordOutside, ShortOutput, ShortWork, NoCodeword, NoWidth, BeyondWidth, NoDepth, NoBits}
-use Rattle.answers.specs.declared.answer.Answer.{Answer}
-use Rattle.answers.specs.declared.answer.Answer.TheVariants.{Done, Refused}
+
+-- the answer of an operation that gives no value beside its lists: done, or refused under a cause
+abbrev pub Answer : Type 0
+Answer = Result (Unit {0}) Refusal
+
+pattern abbrev pub done : Answer
+done = Ok tt
 
 -- 11 stays unused, 12 and 13 are those of a sheet
 abbrev pub number_of : Refusal → ℕ
@@ -42,7 +47,7 @@ value_of NoBits = 0
 -- the cause refuses where its test fails; otherwise the later causes decide
 abbrev pub unless : Bool → Refusal → Answer → Answer
 unless true c later = later
-unless false c later = Refused c
+unless false c later = Err c
 
 -- the first index below m that fails is refused with it as the value beside the number; where none fails the later causes decide
 abbrev pub refuse_first : (ℕ → Bool) → ℕ → (ℕ → Refusal) → Answer → Answer
@@ -50,8 +55,8 @@ refuse_first fails m c later = unless (eqb (first fails m) m) (c (first fails m)
 
 -- the causes of one group, then those of the next
 abbrev pub and_then : Answer → Answer → Answer
-and_then Done later = later
-and_then (Refused c) later = Refused c
+and_then (Ok u) later = later
+and_then (Err c) later = Err c
 
 -- a number from a to b
 abbrev pub Between : ℕ → ℕ → ℕ → Type 0
@@ -59,14 +64,19 @@ Between a b m = (a ≤ m) × (m ≤ b)
 
 -- the answer is no refusal under this number
 abbrev pub Never : ℕ → Answer → Type 0
-Never m r = (c : Refusal) → r ≡ Refused c → number_of c ≢ m
+Never m r = (c : Refusal) → r ≡ Err c → number_of c ≢ m
 
 -- a lent list at the end: the new entries and every later slot as it was, or all as it was
 abbrev pub on_done : Answer → List ℕ → List ℕ → List ℕ
-on_done Done new old = new ++ drop (length new) old
-on_done (Refused c) new old = old
+on_done (Ok u) new old = new ++ drop (length new) old
+on_done (Err c) new old = old
 
--- a part of an answer by value: what it holds on success, and on a refusal
-abbrev pub if_done : {A : Type 0} → Answer → A → A → A
-if_done Done a b = a
-if_done (Refused c) a b = b
+-- an operation that gives a value: the value where it is done, or the same refusal
+abbrev pub answered : {A : Type 0} → Answer → A → Result A Refusal
+answered (Ok u) x = Ok x
+answered (Err c) x = Err c
+
+-- and without its value
+abbrev pub answer_of : {A : Type 0} → Result A Refusal → Answer
+answer_of (Ok x) = done
+answer_of (Err c) = Err c
