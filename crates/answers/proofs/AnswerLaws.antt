@@ -10,7 +10,7 @@ use lib.ListN.{length, drop, length-map}
 use borrow.Author.Tests.{eqb-true, eqb-false, eq-eqb, ne_eqb}
 use Rattle.coding.specs.Lists.{first}
 use Rattle.answers.specs.Refusal.{Answer, done, number_of, unless, refuse_first, and_then, Never, on_done, answered, answer_of}
-use Rattle.std.specs.Prelude.{Result, Ok, Err, IfOk}
+use Rattle.std.specs.Prelude.{Result, Ok, Err, IfOk, IsErr, IsErrAnd}
 use Rattle.answers.specs.declared.answer.Refusal.{Refusal}
 
 -- ---- causes in order
@@ -135,3 +135,8 @@ module _ {A : Type 0} where
   pub if_answered : (a : Answer) (x : A) (P : A → Type 0) (r : Result A Refusal) → r ≡ answered a x → (a ≡ done → P x) → IfOk r P
   if_answered (Ok u) x P r e f = rw e (f refl)
   if_answered (Err c) x P r e f = rw e tt
+
+  -- the refusal at the exit of a `?` is the one that it met
+  pub handed_on : (r : Result A Refusal) (c : Refusal) → IsErr r × IsErrAnd r (λ x. x ≡ c) → r ≡ Err c
+  handed_on (Ok x) c e = absurd e.1
+  handed_on (Err d) c e = ap Err e.1

@@ -1,24 +1,27 @@
--- Laws of the causes 1 to 3. Assumes nothing.
-use mathlib.Core.Path.{◌≡◌, refl, sym, ap}
-use mathlib.Core.List.{List}
+-- Laws of the causes 1 to 3.
+use mathlib.Core.Path.{◌≡◌, refl, sym, ap, ◌∙◌}
+use mathlib.Core.Logic.{◌≢◌}
+use mathlib.Core.List.{List, [], ◌∷◌}
 use mathlib.Core.Bool.{Bool, true, false, not, ◌&&◌}
-use Prim.Native.Nat.{ℕ, ◌+◌, ◌^◌}
-use native.Mathlib.Nat.{le_refl}
+use Prim.Native.Nat.{ℕ, zero, suc, ◌+◌, ◌^◌, ◌<◌}
+use native.Mathlib.Nat.{le_refl, le_of_suc-le-suc}
 use native.Mathlib.Omega.{arith}
-use lib.Dec.{eqb, leb}
+use lib.Dec.{eqb, leb, ltb}
 use lib.ListN.{length, get_or}
-use borrow.Author.Tests.{leb-true, le-leb, eqb-true, eq-eqb, lt-ltb, ltb-true, not-false}
+use borrow.Author.Tests.{leb-true, le-leb, eqb-true, eq-eqb, lt-ltb, ltb-true, ltb-false, le-ltb, not-false}
 use Rattle.coding.specs.Matrix.{Inside}
-use Rattle.coding.proofs.SearchLaws.{first_is, first-before}
+use Rattle.coding.proofs.SearchLaws.{first_is, first-before, first-le, first_hit}
 use Rattle.words.specs.Limits.{max_places, max_rows, max_checks, width, InRange, in_range}
-use Rattle.answers.specs.Refusal.{refuse_first, and_then, Never}
-use Rattle.words.specs.Shape.{outside, first_outside, shape_answer}
+use Rattle.answers.specs.Refusal.{refuse_first, and_then, Never, Answer, done}
+use Rattle.words.specs.Shape.{outside, first_outside, some_outside, shape_answer}
+use Rattle.std.specs.Prelude.{Option, Some, None, fold, bit_or, cond, nat_lt}
+use Rattle.std.proofs.lemmas.Nat.{le_or_l, le_or_r}
+use Rattle.std.specs.List.{position_or_len}
+use Rattle.std.proofs.lemmas.List.Sums.{position_or_len_is}
 use Rattle.words.specs.Widest.{EveryRow}
 use Rattle.answers.proofs.AnswerLaws.{unless_done, first_passes, first_done, Numbered, Neither, neither, unless-numbered, then_never}
 use Rattle.answers.specs.declared.answer.Refusal.{Refusal}
-use Rattle.answers.specs.declared.answer.Answer.{Answer}
 use Rattle.answers.specs.declared.answer.Refusal.TheVariants.{OutOfRange, RowCount, RowOutside}
-use Rattle.answers.specs.declared.answer.Answer.TheVariants.{Done}
 
 -- ---- cause 1
 
@@ -62,6 +65,50 @@ inside_none n words f =
     first_is (outside n words) (length words) (length words) (le_refl (length words))
     (λ j h. ap not (lt-ltb (get_or words j 0) (2 ^ n) (f j h))) (λ h. absurd (omega (arith, h)))
 
+-- words that are joined have n places where their join has
+pub joined_inside : (n all : ℕ) (words : List ℕ) → fold bit_or all words < 2 ^ n → (all < 2 ^ n) × Inside n words
+joined_inside n all [] h = (h, λ i k. absurd (omega (arith, k)))
+joined_inside n all (w ∷ words) h =
+    let (a, f) = joined_inside n (bit_or all w) words h in
+    (omega (arith, a, le_or_l all w), each a f)
+  where
+    each : bit_or all w < 2 ^ n → Inside n words → Inside n (w ∷ words)
+    each a f zero k = omega (arith, a, le_or_r all w)
+    each a f (suc i) k = f i (le_of_suc-le-suc k)
+
+-- the first word with a one outside is the one that the search by position finds
+position-first : (n : ℕ) (words : List ℕ) → position_or_len (λ w. not (ltb w (2 ^ n))) words ≡ first_outside n words
+position-first n words =
+    position_or_len_is _ words (first_outside n words) 0 (first-le (outside n words) (length words))
+    (first-before (outside n words) (length words)) (first_hit (outside n words) (length words))
+
+some_outside_is : (n : ℕ) (words : List ℕ) (o : Option ℕ) → o ≡ some_outside n words
+    → o ≡ cond (nat_lt (first_outside n words) (length words)) (Some (first_outside n words)) None
+some_outside_is n words o e = e ∙ ap (λ (i : ℕ). cond (nat_lt i (length words)) (Some i) None) (position-first n words)
+
+pub outside-some : (n : ℕ) (words : List ℕ) (i : ℕ) → Some i ≡ some_outside n words → (i ≡ first_outside n words) × (i ≢ length words)
+outside-some n words i e = go (nat_lt (first_outside n words) (length words)) refl (some_outside_is n words (Some i) e)
+  where
+    go : (b : Bool) → nat_lt (first_outside n words) (length words) ≡ b → Some i ≡ cond b (Some (first_outside n words)) None
+        → (i ≡ first_outside n words) × (i ≢ length words)
+    go true l z =
+        let same : i ≡ first_outside n words = cc in
+        (same, λ y. absurd (omega (arith, ltb-true (first_outside n words) (length words) l, same, y)))
+    go false l z = absurd cc
+
+pub outside-nothing : (n : ℕ) (words : List ℕ) → None ≡ some_outside n words → first_outside n words ≡ length words
+outside-nothing n words e = go (nat_lt (first_outside n words) (length words)) refl (some_outside_is n words None e)
+  where
+    go : (b : Bool) → nat_lt (first_outside n words) (length words) ≡ b → None ≡ cond b (Some (first_outside n words)) None
+        → first_outside n words ≡ length words
+    go true l z = absurd cc
+    go false l z = omega (arith, ltb-false (first_outside n words) (length words) l, first-le (outside n words) (length words))
+
+pub inside-nothing : (n : ℕ) (words : List ℕ) → Inside n words → None ≡ some_outside n words
+inside-nothing n words f =
+    let e = inside_none n words f in
+    sym (some_outside_is n words (some_outside n words) refl ∙ rw e (ap (λ (b : Bool). cond b (Some (length words)) None) (le-ltb (length words) (length words) (le_refl (length words)))))
+
 -- ---- causes 1 to 3
 
 pub record Shaped (n k : ℕ) (rows : List ℕ) : Type 0 where
@@ -69,19 +116,19 @@ pub record Shaped (n k : ℕ) (rows : List ℕ) : Type 0 where
   pub count : length rows ≡ k
   pub inside : Inside n rows
 
-pub shape_in : (n k : ℕ) (rows : List ℕ) → shape_answer n k rows ≡ Done → Shaped n k rows
+pub shape_in : (n k : ℕ) (rows : List ℕ) → shape_answer n k rows ≡ done → Shaped n k rows
 unfolding shape_answer
 shape_in n k rows e =
     let e1 = unless_done (in_range n k) OutOfRange _ e in
     let e2 = unless_done (eqb (length rows) k) RowCount _ e1.1 in
-    let e3 = first_done (outside n rows) (length rows) RowOutside Done e2.1 in
+    let e3 = first_done (outside n rows) (length rows) RowOutside done e2.1 in
     record {
       range = range_in n k e1.0;
       count = eqb-true (length rows) k e2.0;
       inside = outside_none n rows e3.0;
     }
 
-pub in_shape : (n k : ℕ) (rows : List ℕ) → Shaped n k rows → shape_answer n k rows ≡ Done
+pub in_shape : (n k : ℕ) (rows : List ℕ) → Shaped n k rows → shape_answer n k rows ≡ done
 unfolding shape_answer
 in_shape n k rows s =
     simp (
@@ -97,8 +144,8 @@ pub every_word : (words : List ℕ) → Inside width words → first_outside wid
 every_word words f = inside_none width words f
 
 -- so whatever cause refuses a word outside passes them
-pub every_passes : (c : ℕ → Refusal) (words : List ℕ) → Inside width words → refuse_first (outside width words) (length words) c Done ≡ Done
-every_passes c words f = sym (first_passes (outside width words) (length words) c Done (first_outside width words) refl (every_word words f))
+pub every_passes : (c : ℕ → Refusal) (words : List ℕ) → Inside width words → refuse_first (outside width words) (length words) c done ≡ done
+every_passes c words f = sym (first_passes (outside width words) (length words) c done (first_outside width words) refl (every_word words f))
 
 -- as cause 3 does: it never arises, and 7 is none of these causes
 pub shape_passes : (k : ℕ) (rows : List ℕ) → Inside width rows → Numbered (Neither 3 7) (shape_answer width k rows)

@@ -1,77 +1,78 @@
 // Causes 1 to 3: the shape of a matrix.
-ghost use Rattle.std.specs.Prelude.{◌≡◌, true, length};
+ghost use Rattle.std.specs.Prelude.{◌≡◌, ◌-◌, IsTrue, fold, bit_or};
+ghost use Rattle.coding.specs.Matrix.{Inside};
 ghost use Rattle.words.specs.Limits.{in_range};
-ghost use Rattle.words.specs.Shape.{first_outside, shape_answer};
+ghost use Rattle.words.specs.Shape.{some_outside, shape_answer};
 
 use crate::limits::{MAX_CHECKS, MAX_PLACES, MAX_ROWS, MIN_PLACES};
 use crate::word::fits;
-use answers::{Answer, Refusal};
+use answers::Refusal;
 
 // Whether n, k and n - k are within the limits.
 pub fn in_range(n: u32, k: u32) -> bool
     ensures { result ≡ in_range n k }
 {
-    if n < MIN_PLACES {
-        return false;
-    }
-    if MAX_PLACES < n {
-        return false;
-    }
-    if k < 1 {
-        return false;
-    }
-    if (MAX_ROWS as u32) < k {
-        return false;
-    }
-    if n < k + 1 {
-        return false;
-    }
-    n <= k + MAX_CHECKS as u32
+    MIN_PLACES <= n
+        && n <= MAX_PLACES
+        && 1 <= k
+        && k <= MAX_ROWS as u32
+        && k + 1 <= n
+        && n <= k + MAX_CHECKS as u32
+}
+
+// The words joined: a one wherever one of them has one.
+fn joined(words: &[u32]) -> u32
+    ensures { result ≡ fold bit_or 0 words.now }
+{
+    words.iter().fold(0, |all, w| all | *w)
 }
 
 // Whether every word has n places; they are joined, so that no test is made for each.
 fn all_inside(words: &[u32], n: u32) -> bool
-    ensures { result ≡ true → first_outside n words.now ≡ length words.now }
+    ensures { IsTrue result → Inside n words.now }
 {
-    let mut all: u32 = 0;
-    let mut i: usize = 0;
-    while i < words.len() {
-        all = all | words[i];
-        i += 1;
-    }
-    fits(all, n)
+    fits(joined(words), n)
 }
 
-// The first word with a one at place n or beyond, or the number of words where there is none.
-pub fn first_outside(words: &[u32], n: u32) -> usize
-    ensures { result ≡ first_outside n words.now }
+// The first word with a one at place n or beyond, if there is one.
+pub fn first_outside(words: &[u32], n: u32) -> Option<usize>
+    ensures { result ≡ some_outside n words.now }
 {
     if all_inside(words, n) {
-        return words.len();
+        return None;
     }
-    let mut i: usize = 0;
-    while i < words.len() {
-        if !fits(words[i], n) {
-            return i;
-        }
-        i += 1;
-    }
-    i
+    words.iter().position(|w| !fits(*w, n))
 }
 
-// Causes 1 to 3.
-pub fn shape_cause(n: u32, k: u32, rows: &[u32]) -> Answer
-    ensures { result ≡ shape_answer n k rows.now }
-{
-    if !in_range(n, k) {
-        return Answer::Refused(Refusal::OutOfRange);
+// A generator matrix as it is given: numbers n and k, and its rows, each a word of n places.
+#[derive(Clone, Copy)]
+pub struct Matrix<'a> {
+    pub n: u32,
+    pub k: u32,
+    pub rows: &'a [u32],
+}
+
+impl<'a> Matrix<'a> {
+    // Causes 1 to 3.
+    pub fn shape_cause(&self) -> Result<(), Refusal>
+        ensures { result ≡ shape_answer self.now.n self.now.k self.now.rows.now }
+    {
+        if !in_range(self.n, self.k) {
+            return Err(Refusal::OutOfRange);
+        }
+        if self.rows.len() != self.k as usize {
+            return Err(Refusal::RowCount);
+        }
+        match first_outside(self.rows, self.n) {
+            Some(i) => Err(Refusal::RowOutside(i)),
+            None => Ok(()),
+        }
     }
-    if rows.len() != k as usize {
-        return Answer::Refused(Refusal::RowCount);
+
+    // How many check rows there are: n - k, and 0 where k is larger.
+    pub fn check_count(&self) -> usize
+        ensures { result ≡ self.now.n - self.now.k }
+    {
+        self.n.saturating_sub(self.k) as usize
     }
-    let bad = first_outside(rows, n);
-    if bad != rows.len() {
-        return Answer::Refused(Refusal::RowOutside(bad));
-    }
-    Answer::Done
 }

@@ -1,24 +1,26 @@
 -- The causes in turn.
 use Rattle.std.proofs.Common.{sym, ◌∙◌}
 use Rattle.words.specs.Lists.{many_answer, inside_answer, list_answer}
-use Rattle.answers.proofs.AnswerLaws.{stays, goes}
+use Rattle.answers.proofs.AnswerLaws.{handed_on, stays, goes}
 use Rattle.words.proofs.lists.list_cause.Goals as goal
 
-pub returns-in_default : goal.returns-in_default
+pub returns-in_err-many_cause : goal.returns-in_err-many_cause
 unfolding list_answer
-returns-in_default c =
-    c.many_cause-a.ensures ∙ stays (many_answer c.args.words.now) _ _ (sym c.many_cause-a.ensures ∙ c.in_default.is)
+returns-in_err-many_cause c =
+    let e = sym c.many_cause.ensures ∙ c.in_err-many_cause.was in
+    handed_on _ _ c.from_residual.ensures ∙ sym e ∙ stays (many_answer c.args.words.now) _ _ e
 
-pub returns-in_default-b : goal.returns-in_default-b
+pub returns-in_err-inside_cause : goal.returns-in_err-inside_cause
 unfolding list_answer
-returns-in_default-b c =
-    c.inside_cause-b.ensures
-    ∙ stays (inside_answer c.args.words.now c.args.places) _ _ (sym c.inside_cause-b.ensures ∙ c.in_default-b.is)
-    ∙ goes (many_answer c.args.words.now) _ (sym c.many_cause-a.ensures ∙ c.in-Done.is)
+returns-in_err-inside_cause c =
+    let e = sym c.inside_cause.ensures ∙ c.in_err-inside_cause.was in
+    handed_on _ _ c.from_residual-in_err-inside_cause.ensures ∙ sym e
+    ∙ stays (inside_answer c.args.words.now c.args.places) _ _ e
+    ∙ goes (many_answer c.args.words.now) _ (sym c.many_cause.ensures ∙ c.in_ok-many_cause.was)
 
 pub returns : goal.returns
 unfolding list_answer
 returns c =
     c.room_cause.ensures
-    ∙ goes (inside_answer c.args.words.now c.args.places) _ (sym c.inside_cause-b.ensures ∙ c.in-Done-b.is)
-    ∙ goes (many_answer c.args.words.now) _ (sym c.many_cause-a.ensures ∙ c.in-Done.is)
+    ∙ goes (inside_answer c.args.words.now c.args.places) _ (sym c.inside_cause.ensures ∙ c.in_ok-inside_cause.was)
+    ∙ goes (many_answer c.args.words.now) _ (sym c.many_cause.ensures ∙ c.in_ok-many_cause.was)

@@ -1,13 +1,9 @@
--- The words before i are joined.
+-- Words that are joined have n places where their join has.
 use Rattle.std.proofs.Common.{sym, ◌∙◌, ◌^◌, ltb-true}
-use Rattle.coding.proofs.LoopLaws.{gathered_step, gathered-each}
-use Rattle.words.proofs.ShapeLaws.{inside_none}
+use Rattle.words.proofs.ShapeLaws.{joined_inside}
 use Rattle.words.proofs.shape.all_inside.Goals as goal
-
-pub loop-i-preserved : goal.loop-i-preserved
-loop-i-preserved c = gathered_step c.loop-i.invariant c.loop-i-test.true
 
 pub returns : goal.returns
 returns c t =
-    let joined = ltb-true c.loop-i.all (2 ^ c.args.n) (sym c.fits.ensures ∙ t) in
-    inside_none c.args.n c.args.words.now (gathered-each c.loop-i.invariant c.loop-i-test.false joined)
+    let h = ltb-true c.joined.result (2 ^ c.args.n) (sym c.fits.ensures ∙ t) in
+    (joined_inside c.args.n 0 c.args.words.now (rw (sym c.joined.ensures) h)).1

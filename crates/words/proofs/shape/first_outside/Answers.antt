@@ -1,10 +1,6 @@
--- No word before i has a one at place n or beyond.
-use Rattle.std.proofs.Common.{sym, ap, ◌∙◌, not}
-use Rattle.coding.proofs.LoopLaws.{search_hit, search_end}
+-- Where every word has n places, none has a one outside.
+use Rattle.words.proofs.ShapeLaws.{inside-nothing}
 use Rattle.words.proofs.shape.first_outside.Goals as goal
 
-pub returns-then-not-fits : goal.returns-then-not-fits
-returns-then-not-fits c = search_hit c.loop-i.invariant c.loop-i-test.true (ap not (sym c.fits.ensures ∙ c.if-not-fits.true))
-
-pub returns : goal.returns
-returns c = search_end c.loop-i.invariant c.loop-i-test.false
+pub returns-then-all_inside : goal.returns-then-all_inside
+returns-then-all_inside c = inside-nothing c.args.n c.args.words.now (c.all_inside.ensures c.if-all_inside.true)
