@@ -9,8 +9,9 @@ use lib.Dec.{eqb}
 use lib.ListN.{length, drop, length-map}
 use borrow.Author.Tests.{eqb-true, eqb-false, eq-eqb, ne_eqb}
 use Rattle.coding.specs.Lists.{first}
-use Rattle.answers.specs.Refusal.{Answer, done, number_of, unless, refuse_first, and_then, Never, on_done, answered, answer_of}
-use Rattle.std.specs.Prelude.{Result, Ok, Err, IfOk, IsErr, IsErrAnd}
+use Rattle.coding.proofs.SearchLaws.{true_false}
+use Rattle.answers.specs.Refusal.{Answer, done, number_of, unless, refuse_first, and_then, Never, on_done, answered, answer_of, part}
+use Rattle.std.specs.Prelude.{Result, Ok, Err, IfOk, IsOk, IsErr, IsErrAnd, is_ok}
 use Rattle.answers.specs.declared.answer.Refusal.{Refusal}
 
 -- ---- causes in order
@@ -140,3 +141,12 @@ module _ {A : Type 0} where
   pub handed_on : (r : Result A Refusal) (c : Refusal) → IsErr r × IsErrAnd r (λ x. x ≡ c) → r ≡ Err c
   handed_on (Ok x) c e = absurd e.1
   handed_on (Err d) c e = ap Err e.1
+
+  -- of the value, where it is known what is answered
+  pub done_answered : (a : Answer) (x : A) (r : Result A Refusal) → r ≡ answered a x → IsOk r → a ≡ done
+  done_answered (Ok u) x r e h = refl
+  done_answered (Err c) x r e h = let z : is_ok r ≡ false = rw e refl in absurd (true_false h z)
+
+  pub part-answered : {B : Type 0} (f : A → B) (a : Answer) (x : A) (r : Result A Refusal) → r ≡ answered a x → part f r ≡ answered a (f x)
+  part-answered f (Ok u) x r e = rw e refl
+  part-answered f (Err c) x r e = rw e refl

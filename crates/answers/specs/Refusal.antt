@@ -80,3 +80,8 @@ answered (Err c) x = Err c
 abbrev pub answer_of : {A : Type 0} → Result A Refusal → Answer
 answer_of (Ok x) = done
 answer_of (Err c) = Err c
+
+-- and with a part of its value alone
+abbrev pub part : {A B : Type 0} → (A → B) → Result A Refusal → Result B Refusal
+part f (Ok x) = Ok (f x)
+part f (Err c) = Err c

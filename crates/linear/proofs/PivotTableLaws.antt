@@ -1,6 +1,6 @@
 -- Laws of the table of an accepted matrix, its reduced rows in 32 places: the rows and messages that are read off it are
--- those of the definitions in n places. Assumes nothing.
-use mathlib.Core.Path.{◌≡◌, sym, ap, ◌∙◌}
+-- those of the definitions in n places.
+use mathlib.Core.Path.{◌≡◌, refl, sym, ap, ◌∙◌}
 use mathlib.Core.List.{List, ◌++◌, map}
 use Prim.Native.Nat.{ℕ, ◌-◌, ◌≤◌, ◌<◌}
 use native.Mathlib.Omega.{arith}
@@ -17,19 +17,17 @@ use Rattle.coding.proofs.UniqueLaws.{reduced_form_unique}
 use Rattle.coding.proofs.WidthLaws.{inside_wide, reduce_wide, rows_zeros}
 use Rattle.coding.proofs.TraceLaws.{traced_at, trace_message}
 use Rattle.words.specs.Limits.{max_rows}
-use Rattle.answers.specs.Refusal.{if_done}
+use Rattle.answers.specs.Refusal.{done, answered, answer_of}
 use Rattle.words.specs.Widest.{EveryRow}
 use Rattle.answers.specs.declared.answer.Refusal.{Refusal}
-use Rattle.answers.specs.declared.answer.Answer.{Answer}
-use Rattle.answers.specs.declared.answer.Answer.TheVariants.{Done, Refused}
-use Rattle.answers.proofs.AnswerLaws.{refused_done, never_done}
+use Rattle.answers.proofs.AnswerLaws.{refused_done, err_answered, answer_of-answered, if_answered, done_answered, part-answered}
 use Rattle.words.specs.Accepted.{matrix_answer, Accepted}
 use Rattle.linear.specs.ReducedRows.{ReducedRowsOf}
-use Rattle.linear.specs.Reduction.{MessagesByPivot, ReductionOf}
+use Rattle.linear.specs.Reduction.{messages_by_pivot, MessagesByPivot, ReductionOf}
 use Rattle.linear.specs.declared.reduction.Reduction.{Reduction}
-use Rattle.linear.specs.declared.reduction.ReducedRows.{ReducedRows}
-use Rattle.words.proofs.AcceptedLaws.{accepted_in, in_accepted}
+use Rattle.words.proofs.AcceptedLaws.{accepted_in}
 use Rattle.words.proofs.CodeLaws.{places_are, rows_are}
+use Rattle.std.specs.Prelude.{Result, Err, IsOk}
 
 module _ (n k : ℕ) (rows : List ℕ) (A : Accepted n k rows) where
   narrow : n ≤ 32
@@ -68,49 +66,44 @@ module _ (n k : ℕ) (rows : List ℕ) (A : Accepted n k rows) where
     pub compact_is : rows_of table ≡ reduced_rows n rows
     compact_is = ap rows_of wide ∙ rows_zeros (reduce n rows) (32 - n)
 
--- the table of an accepted matrix
-pub table_of : {n k : ℕ} {rows : List ℕ} {r : Reduction} → ReductionOf n k rows r → r.answer ≡ Done → r.table ≡ reduce 32 rows
-table_of R d = rw d at R.table_is
-
 -- the reduced rows of an accepted matrix are its reduced row echelon form, the only one
-pub reduced_rows_lem : (n k : ℕ) (rows : List ℕ) → EveryRow n (matrix_answer n k rows) → (r : ReducedRows) → r.answer ≡ matrix_answer n k rows
-    → r.rows ≡ if_done r.answer (padded max_rows (reduced_rows n rows)) (zeros max_rows) → ReducedRowsOf n k rows r
-reduced_rows_lem n k rows w r a e = record {
-  answer = a;
-  every_row = rw a w;
-  rows_are = e;
+pub reduced_rows_lem : (n k : ℕ) (rows : List ℕ) → EveryRow n (matrix_answer n k rows) → (r : Result (List ℕ) Refusal)
+    → r ≡ answered (matrix_answer n k rows) (padded max_rows (reduced_rows n rows)) → ReducedRowsOf n k rows r
+reduced_rows_lem n k rows w r e = record {
+  is = e;
+  every_row = rw (ap answer_of e ∙ answer_of-answered (matrix_answer n k rows) _) w;
   count = λ d. rows_are n k rows (accepted d);
   form = λ d. form d;
   only = λ d B P F. reduced_form_unique rows B (reduced_rows n rows) P (pivots n rows) F (form d);
 }
   where
-    accepted : r.answer ≡ Done → Accepted n k rows
-    accepted d = accepted_in n k rows (sym a ∙ d)
+    accepted : IsOk r → Accepted n k rows
+    accepted d = accepted_in n k rows (done_answered (matrix_answer n k rows) _ r e d)
 
-    form : r.answer ≡ Done → ReducedForm rows (reduced_rows n rows) (pivots n rows)
+    form : IsOk r → ReducedForm rows (reduced_rows n rows) (pivots n rows)
     form d = reduced_rows_form n rows (accepted d).inside
 
--- on a refusal there is no message
-pub messages_refused : (n : ℕ) (rows : List ℕ) (a : Answer) (M : List ℕ) (c : Refusal) → a ≡ Refused c → M ≡ zeros 32
-    → MessagesByPivot n rows a M
-messages_refused n rows a M c e z = record { are = rw e z; by_pivot = λ d. refused_done (sym e ∙ d); traced = λ d. refused_done (sym e ∙ d) }
+-- and the messages by pivot are those of the table
+messages_lem : (n k : ℕ) (rows : List ℕ) → (matrix_answer n k rows ≡ done → Traced rows (messages_by_pivot rows) (reduce 32 rows))
+    → (r : Result (List ℕ) Refusal) → r ≡ answered (matrix_answer n k rows) (messages_by_pivot rows) → MessagesByPivot n rows r
+messages_lem n k rows trace r e = record {
+  are = if_answered (matrix_answer n k rows) _ (λ m. m ≡ messages_by_pivot rows) r e (λ _. refl);
+  by_pivot = λ d. by_pivot_is n k rows (accepted_in n k rows (done_answered (matrix_answer n k rows) _ r e d));
+  traced = if_answered (matrix_answer n k rows) _ (λ m. Traced rows m (reduce 32 rows)) r e trace;
+}
 
--- ---- what the reduction promises, on success and on a refusal
+-- what the reduction promises
+pub reduction_lem : (n k : ℕ) (rows : List ℕ) → EveryRow n (matrix_answer n k rows)
+    → (matrix_answer n k rows ≡ done → Traced rows (messages_by_pivot rows) (reduce 32 rows)) → (r : Result Reduction Refusal)
+    → r ≡ answered (matrix_answer n k rows) (record { rows = padded max_rows (reduced_rows n rows); table = reduce 32 rows; messages = messages_by_pivot rows })
+    → ReductionOf n k rows r
+reduction_lem n k rows w trace r e = record {
+  is = e;
+  reduced = reduced_rows_lem n k rows w _ (part-answered (λ x. x.rows) (matrix_answer n k rows) _ r e);
+  messages = messages_lem n k rows trace _ (part-answered (λ x. x.messages) (matrix_answer n k rows) _ r e);
+}
 
-module _ (n k : ℕ) (rows : List ℕ) (r : Reduction) where
-  pub reduction_done : Accepted n k rows → r.answer ≡ Done → r.rows ≡ padded max_rows (reduced_rows n rows) → r.table ≡ reduce 32 rows
-      → Traced rows r.messages (reduce 32 rows) → ReductionOf n k rows r
-  reduction_done A d e t m = record {
-    reduced = reduced_rows_lem n k rows (λ _. rw (in_accepted n k rows A) (never_done 3)) _ (d ∙ sym (in_accepted n k rows A)) (rw d e);
-    table_is = rw d t;
-    messages = record { are = rw d (beside_are n k rows A r.messages m); by_pivot = λ _. by_pivot_is n k rows A; traced = λ _. m };
-  }
-
-  -- a refusal has 0 in every other part
-  pub reduction_refused : EveryRow n (matrix_answer n k rows) → (c : Refusal) → r.answer ≡ Refused c → (r.rows ≡ zeros max_rows) × (r.table ≡ zeros 32) × (r.messages ≡ zeros 32)
-      → matrix_answer n k rows ≡ Refused c → ReductionOf n k rows r
-  reduction_refused w c e (x, y, z) m = record {
-    reduced = reduced_rows_lem n k rows w _ (e ∙ sym m) (rw e x);
-    table_is = rw e y;
-    messages = messages_refused n rows r.answer r.messages c e z;
-  }
+pub reduction_refused : (n k : ℕ) (rows : List ℕ) → EveryRow n (matrix_answer n k rows) → (c : Refusal) → matrix_answer n k rows ≡ Err c
+    → (r : Result Reduction Refusal) → r ≡ Err c → ReductionOf n k rows r
+reduction_refused n k rows w c m r e =
+    reduction_lem n k rows w (λ d. refused_done (sym m ∙ d)) r (e ∙ err_answered (matrix_answer n k rows) _ c m)

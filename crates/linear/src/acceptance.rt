@@ -2,12 +2,13 @@
 ghost use Rattle.linear.specs.Judged.{Judged};
 
 use crate::reduction::reduce;
-use answers::Answer;
+use answers::Refusal;
+use words::shape::Matrix;
 
-// Causes 1 to 4: the first that refuses the matrix, or Done where it is accepted.
-pub fn accept(n: u32, k: u32, rows: &[u32]) -> Answer
-    ensures { Judged n k rows.now result }
+// Causes 1 to 4: the first that refuses the matrix, or Ok where it is accepted.
+pub fn accept(matrix: &Matrix) -> Result<(), Refusal>
+    ensures { Judged matrix.now.n matrix.now.k matrix.now.rows.now result }
 {
-    let r = reduce(n, k, rows);
-    r.answer
+    reduce(matrix)?;
+    Ok(())
 }

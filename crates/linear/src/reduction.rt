@@ -1,7 +1,7 @@
 // Part 1: the reduced row echelon form.
 ghost use Rattle.std.specs.Prelude.{◌≡◌, ◌<◌, ◌≤◌, ◌^◌, length, set};
 ghost use Rattle.coding.specs.Matrix.{Inside};
-ghost use Rattle.coding.specs.Lists.{zeros, padded};
+ghost use Rattle.coding.specs.Lists.{padded};
 ghost use Rattle.coding.specs.Inner.Beside.{wipes};
 ghost use Rattle.coding.specs.Reduce.{rows_of};
 ghost use Rattle.words.specs.Limits.{max_rows, width};
@@ -9,9 +9,9 @@ ghost use Rattle.linear.specs.Inner.Eliminated.{Eliminated};
 ghost use Rattle.linear.specs.Reduction.{ReductionOf};
 ghost use Rattle.linear.specs.ReducedRows.{ReducedRowsOf};
 
-use answers::{Answer, Refusal};
+use answers::Refusal;
 use words::limits::{MAX_ROWS, WIDTH};
-use words::shape::shape_cause;
+use words::shape::Matrix;
 use words::word::selected;
 
 // Reduced rows listed by place: entry p is the row whose pivot is p, or 0. Beside each stands a message that has it as its codeword.
@@ -74,25 +74,12 @@ pub(crate) fn eliminate(rows: &[u32]) -> Elimination
     }
 }
 
-// The answer to a matrix; where it is accepted, its k reduced rows, and by pivot these rows and their messages; 0 at every other entry.
+// Of an accepted matrix its k reduced rows, 0 after them, and by pivot these rows and their messages, 0 at every other entry.
 #[derive(Drop)]
 pub struct Reduction {
-    pub answer: Answer,
     pub rows: [u32; MAX_ROWS],
     pub table: [u32; WIDTH],
     pub messages: [u32; WIDTH],
-}
-
-// Rows, table and messages are 0 beside a refusal.
-fn refused(answer: Answer) -> Reduction
-    ensures { (result.answer ≡ answer) × (result.rows ≡ zeros max_rows) × (result.table ≡ zeros width) × (result.messages ≡ zeros width) }
-{
-    Reduction {
-        answer,
-        rows: [0u32; MAX_ROWS],
-        table: [0u32; WIDTH],
-        messages: [0u32; WIDTH],
-    }
 }
 
 // The rows of a table by place, without the places that are no pivot.
@@ -114,42 +101,24 @@ fn compact(table: &[u32]) -> [u32; MAX_ROWS]
 }
 
 // Causes 1 to 4, and the elimination that tells the fourth.
-pub fn reduce(n: u32, k: u32, rows: &[u32]) -> Reduction
-    ensures { ReductionOf n k rows.now result }
+pub fn reduce(matrix: &Matrix) -> Result<Reduction, Refusal>
+    ensures { ReductionOf matrix.now.n matrix.now.k matrix.now.rows.now result }
 {
-    let a = shape_cause(n, k, rows);
-    let Answer::Done = a else {
-        return refused(a);
-    };
-    let e = eliminate(rows);
-    let rank = e.rank;
-    if rank != rows.len() {
-        return refused(Answer::Refused(Refusal::Dependent(rank)));
+    matrix.shape_cause()?;
+    let e = eliminate(matrix.rows);
+    if e.rank != matrix.rows.len() {
+        return Err(Refusal::Dependent(e.rank));
     }
-    let table = e.table;
-    let messages = e.messages;
-    let listed = compact(&table);
-    Reduction {
-        answer: Answer::Done,
-        rows: listed,
-        table,
-        messages,
-    }
+    Ok(Reduction {
+        rows: compact(&e.table),
+        table: e.table,
+        messages: e.messages,
+    })
 }
 
-// The answer to a matrix, and where it is accepted its k reduced rows; 0 at every other entry.
-#[derive(Drop)]
-pub struct ReducedRows {
-    pub answer: Answer,
-    pub rows: [u32; MAX_ROWS],
-}
-
-// The reduced row echelon form of an accepted matrix.
-pub fn reduced_rows(n: u32, k: u32, rows: &[u32]) -> ReducedRows
-    ensures { ReducedRowsOf n k rows.now result }
+// The reduced row echelon form of an accepted matrix: its k rows, and 0 after them.
+pub fn reduced_rows(matrix: &Matrix) -> Result<[u32; MAX_ROWS], Refusal>
+    ensures { ReducedRowsOf matrix.now.n matrix.now.k matrix.now.rows.now result }
 {
-    let r = reduce(n, k, rows);
-    let answer = r.answer;
-    let rows = r.rows;
-    ReducedRows { answer, rows }
+    Ok(reduce(matrix)?.rows)
 }

@@ -1,5 +1,7 @@
 // Causes 6 to 8: the list of words of a call and the room for its results.
 ghost use Rattle.std.specs.Prelude.{◌≡◌};
+ghost use Rattle.coding.specs.Matrix.{Inside};
+ghost use Rattle.words.specs.Limits.{width};
 ghost use Rattle.words.specs.Lists.{many_answer, inside_answer, room_answer, list_answer};
 
 use crate::limits::MAX_WORDS;
@@ -36,9 +38,10 @@ pub fn room_cause(results: usize, slots: usize) -> Result<(), Refusal>
     Ok(())
 }
 
-// Causes 6 to 8, for words of so many places and an output list of so many slots.
+// Causes 6 to 8, for words of so many places and an output list of so many slots. Every word is a number of 32 bits.
 pub fn list_cause(words: &[u32], places: u32, slots: usize) -> Result<(), Refusal>
-    ensures { result ≡ list_answer words.now places slots }
+    ensures answer { result ≡ list_answer words.now places slots }
+    ensures words { Inside width words.now }
 {
     many_cause(words)?;
     inside_cause(words, places)?;

@@ -1,7 +1,7 @@
 // Causes 1 to 3: the shape of a matrix.
 ghost use Rattle.std.specs.Prelude.{◌≡◌, ◌-◌, IsTrue, fold, bit_or};
 ghost use Rattle.coding.specs.Matrix.{Inside};
-ghost use Rattle.words.specs.Limits.{in_range};
+ghost use Rattle.words.specs.Limits.{in_range, width};
 ghost use Rattle.words.specs.Shape.{some_outside, shape_answer};
 
 use crate::limits::{MAX_CHECKS, MAX_PLACES, MAX_ROWS, MIN_PLACES};
@@ -44,6 +44,23 @@ pub fn first_outside(words: &[u32], n: u32) -> Option<usize>
     words.iter().position(|w| !fits(*w, n))
 }
 
+// Causes 1 to 3 of these numbers and rows. Every row is a number of 32 bits.
+fn shape_cause(n: u32, k: u32, rows: &[u32]) -> Result<(), Refusal>
+    ensures answer { result ≡ shape_answer n k rows.now }
+    ensures words { Inside width rows.now }
+{
+    if !in_range(n, k) {
+        return Err(Refusal::OutOfRange);
+    }
+    if rows.len() != k as usize {
+        return Err(Refusal::RowCount);
+    }
+    match first_outside(rows, n) {
+        Some(i) => Err(Refusal::RowOutside(i)),
+        None => Ok(()),
+    }
+}
+
 // A generator matrix as it is given: numbers n and k, and its rows, each a word of n places.
 #[derive(Clone, Copy)]
 pub struct Matrix<'a> {
@@ -53,20 +70,12 @@ pub struct Matrix<'a> {
 }
 
 impl<'a> Matrix<'a> {
-    // Causes 1 to 3.
+    // Causes 1 to 3. Every row is a number of 32 bits.
     pub fn shape_cause(&self) -> Result<(), Refusal>
-        ensures { result ≡ shape_answer self.now.n self.now.k self.now.rows.now }
+        ensures answer { result ≡ shape_answer self.now.n self.now.k self.now.rows.now }
+        ensures words { Inside width self.now.rows.now }
     {
-        if !in_range(self.n, self.k) {
-            return Err(Refusal::OutOfRange);
-        }
-        if self.rows.len() != self.k as usize {
-            return Err(Refusal::RowCount);
-        }
-        match first_outside(self.rows, self.n) {
-            Some(i) => Err(Refusal::RowOutside(i)),
-            None => Ok(()),
-        }
+        shape_cause(self.n, self.k, self.rows)
     }
 
     // How many check rows there are: n - k, and 0 where k is larger.
