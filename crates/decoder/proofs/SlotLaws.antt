@@ -44,7 +44,7 @@ module _ (n k : ℕ) (rows : List ℕ) (A : Accepted n k rows) (reading : Readin
       ∙ get_d_tabulate (leader_of n rows) (2 ^ (n - k)) (syndrome_of n rows w) (syndrome-below n k rows A w))
 
   pub words_are : (ws : List ℕ) → map (word_by reading leaders hs) ws ≡ map (word_of n rows reading) ws
-  words_are ws = map_same _ _ ws (λ i h. ap (λ (o : Outcome). word_in o (get_or ws i 0)) (outcome_by_lem (get_or ws i 0)))
+  words_are ws = map_same _ _ ws (λ i h. ap (λ (o : Outcome ℕ). word_in o (get_or ws i 0)) (outcome_by_lem (get_or ws i 0)))
 
   pub counts_are : (ws : List ℕ) → map (count_by reading leaders hs) ws ≡ map (count_of n rows reading) ws
   counts_are ws = map_same _ _ ws (λ i h. ap count_in (outcome_by_lem (get_or ws i 0)))

@@ -9,7 +9,7 @@ ghost use Rattle.decoder.specs.Inner.SlotsBy.{words_with, counts_with, word_by, 
 use answers::{Answer, Refusal};
 use judging::known_past_8;
 use leaders::fill_leaders;
-use outcomes::{Reading, count_in, outcome_of, word_in};
+use outcomes::{Reading, outcome_of};
 use parity::syndromes;
 use words::limits::MAX_CHECKS;
 
@@ -91,8 +91,8 @@ fn correct(reading: Reading, words: &[u32], out: &mut [u32], counts: &mut [u8])
     while i < words.len() {
         let w = words[i];
         let o = outcome_of(reading, w, out[i]);
-        out[i] = word_in(o, w);
-        counts[i] = count_in(o);
+        out[i] = o.word(w);
+        counts[i] = o.count();
         i += 1;
     }
 }

@@ -16,7 +16,7 @@ use Rattle.golay_code.specs.Golay.{golay_rows}
 use Rattle.golay.specs.declared.decoding.Correction.{Correction}
 
 -- how a received word ends: as Decode ends it with the Golay matrix, within radius 3
-unfoldable pub golay_outcome : ℕ → Outcome
+unfoldable pub golay_outcome : ℕ → Outcome ℕ
 golay_outcome w = decoded_as 24 golay_rows (Within 3) w
 
 -- cause 7: a word with a one outside its 24 places

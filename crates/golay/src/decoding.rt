@@ -7,7 +7,7 @@ ghost use Rattle.golay.specs.Decoded.{golay_outcome, Decoded};
 use crate::nearby::near_row;
 use crate::rows::{CHECK_ROWS, check_sum, syndrome};
 use answers::{Answer, Refusal};
-use outcomes::{Outcome, count_in, word_in};
+use outcomes::Outcome;
 use words::word::{fits, sum, weight};
 
 pub const RADIUS: u32 = 3;
@@ -64,7 +64,7 @@ fn error_pattern(s: u32) -> u32
 
 // How a received word ends. A syndrome of at most three places is itself the pattern, and its weight is at hand. A pattern has at least
 // one place, since s is not 0.
-fn outcome(received: u32) -> Outcome
+fn outcome(received: u32) -> Outcome<u32>
     requires { received < 2 ^ 24 }
     ensures { result ≡ golay_outcome received }
 {
@@ -97,7 +97,7 @@ pub fn decode(received: u32) -> Correction
     let o = outcome(received);
     Correction {
         answer: Answer::Done,
-        word: word_in(o, received),
-        count: count_in(o),
+        word: o.word(received),
+        count: o.count(),
     }
 }

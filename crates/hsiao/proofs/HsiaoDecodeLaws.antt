@@ -19,13 +19,14 @@ use Rattle.coding.proofs.RadiusLaws.{radius-found}
 use Rattle.coding.proofs.ColumnLaws.{split_discrete, split-distance_sym, split-distance_tri, split-distance_self, check_is, encoded-codeword}
 use Rattle.coding.proofs.ColumnLaws.{four-apart, IsColumn, check_changed_distance, info_changed_distance, mend_check, mend_info, near_syndrome}
 use Rattle.hsiao.specs.Table.{split}
-use Rattle.hsiao.specs.Outcome.{with_check, with_data, outcome_at, outcome_by, word_in, count_in}
+use Rattle.hsiao.specs.Outcome.{with_check, with_data, outcome_at, outcome_by}
+use Rattle.outcomes.specs.Outcome.{word_in, count_in}
 use Rattle.hsiao.specs.Encoded.{EncodedBy}
 use Rattle.hsiao.specs.Decoded.{DecodedBy}
 use Rattle.hsiao.specs.declared.word.Word.{Word}
 use Rattle.hsiao.specs.declared.decoding.Decoding.{Decoding}
-use Rattle.hsiao.specs.declared.outcomes.Outcome.{Outcome}
-use Rattle.hsiao.specs.declared.outcomes.Outcome.TheVariants.{Clean, Mended, Far}
+use Rattle.outcomes.specs.declared.ending.Outcome.{Outcome}
+use Rattle.outcomes.specs.declared.ending.Outcome.TheVariants.{Clean, Mended, Far}
 use Rattle.hsiao.proofs.PlaceLaws.{place-column, place_upto}
 
 module _ (c : ℕ) where
@@ -72,18 +73,18 @@ module _ (c d : ℕ) (l : c ≤ d) (s : ℕ) (h : s < 2 ^ c) where
               absurd (omega (arith, v, ltb-false (column_place (units c) s) c e, unit_upto c s (column_place (units d) s) v (unit_place d s p)))
 
 -- the outcome by the three tests: no error, the column of check place j, that of data place i
-abbrev tested : Word → ℕ → ℕ → Bool → Bool → Bool → Outcome
+abbrev tested : Word → ℕ → ℕ → Bool → Bool → Bool → Outcome Word
 tested w j i b₀ b₁ b₂ = cond b₀ (Clean w) (cond b₁ (Mended (with_check w j) 1) (cond b₂ (Mended (with_data w i) 1) Far))
 
 module _ (c : ℕ) (cols : List ℕ) (K : OddColumns c cols) (w : Word) (P : SplitPlaces c cols (split w)) where
   -- the outcome is a codeword within 1 with its distance as the count, or far and no codeword is within 1
-  abbrev Found : Outcome → Type 0
+  abbrev Found : Outcome Word → Type 0
   Found o =
       ((count_in o ≡ 255) × ((b : SplitWord) → SplitCodeword c cols b → 1 < split_distance (split w) b))
       ⊎ ((count_in o ≡ 255 → ⊥) × SplitCodeword c cols (split (word_in o w)) × (count_in o ≡ split_distance (split w) (split (word_in o w)))
       × (split_distance (split w) (split (word_in o w)) ≤ 1))
 
-  one_away : (o : Outcome) → count_in o ≡ 1 → split_distance (split w) (split (word_in o w)) ≡ 1 → SplitCodeword c cols (split (word_in o w)) → Found o
+  one_away : (o : Outcome Word) → count_in o ≡ 1 → split_distance (split w) (split (word_in o w)) ≡ 1 → SplitCodeword c cols (split (word_in o w)) → Found o
   one_away o e d C = inr ((λ z. absurd (omega (arith, e, z))), C, e ∙ sym d, omega (arith, d))
 
   found : Found (outcome_by c cols w)
@@ -133,13 +134,13 @@ module _ (c : ℕ) (cols : List ℕ) (K : OddColumns c cols) (w : Word) (P : Spl
 
 -- the count tells the outcome
 module _ (c : ℕ) (cols : List ℕ) (w : Word) (s : ℕ) where
-  abbrev Told : Outcome → Type 0
+  abbrev Told : Outcome Word → Type 0
   Told o = ((count_in o ≡ 0) ↔ (o ≡ Clean w)) × ((count_in o ≡ 255) ↔ (o ≡ Far))
 
   told : Told (outcome_at c cols w s)
   told = go (eqb s 0) (ltb (column_place (units c) s) c) (ltb (column_place cols s) (length cols))
     where
-      clash : (o : Outcome) (m n : ℕ) → count_in o ≡ m → (m ≡ n → ⊥) → (p : Outcome) → count_in p ≡ n → (count_in o ≡ n) ↔ (o ≡ p)
+      clash : (o : Outcome Word) (m n : ℕ) → count_in o ≡ m → (m ≡ n → ⊥) → (p : Outcome Word) → count_in p ≡ n → (count_in o ≡ n) ↔ (o ≡ p)
       clash o m n e ne p f = ((λ z. absurd (ne (sym e ∙ z))), λ z. absurd (ne (sym e ∙ ap count_in z ∙ f)))
 
       mended : (v : Word) → Told (Mended v 1)

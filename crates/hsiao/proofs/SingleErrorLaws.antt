@@ -16,7 +16,7 @@ use Rattle.coding.specs.Columns.{units, column_place}
 use Rattle.hsiao.specs.Outcome.{with_data, outcome_at}
 use Rattle.hsiao.specs.Inner.Number.{column_number}
 use Rattle.hsiao.specs.declared.word.Word.{Word}
-use Rattle.hsiao.specs.declared.outcomes.Outcome.TheVariants.{Mended, Far}
+use Rattle.outcomes.specs.declared.ending.Outcome.TheVariants.{Mended, Far}
 
 -- a test of every number below m
 abbrev below : (ℕ → Bool) → ℕ → Bool

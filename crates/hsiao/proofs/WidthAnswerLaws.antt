@@ -14,7 +14,7 @@ use Rattle.answers.specs.declared.answer.Refusal.TheVariants.{NoWidth, BeyondWid
 use Rattle.answers.specs.declared.answer.Answer.TheVariants.{Done, Refused}
 use Rattle.answers.proofs.AnswerLaws.{refused_done, unless_done}
 use Rattle.hsiao.specs.Table.{columns, split, syndrome_of}
-use Rattle.hsiao.specs.Outcome.{word_in, count_in}
+use Rattle.outcomes.specs.Outcome.{word_in, count_in}
 use Rattle.hsiao.specs.Widths.Code.{is_width, checks_of, columns_of}
 use Rattle.hsiao.specs.Widths.Causes.{has_places, data_answer, word_answer}
 use Rattle.hsiao.specs.Widths.Encoded.{Encoded}

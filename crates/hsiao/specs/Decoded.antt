@@ -3,10 +3,11 @@ use Rattle.std.specs.Prelude.{◌≡◌, ◌↔◌, List, ℕ}
 use Rattle.coding.specs.Radius.{RadiusRules}
 use Rattle.coding.specs.Columns.{SplitWord, split_distance, SplitCodeword, SplitMinimumDistance}
 use Rattle.hsiao.specs.Table.{columns, split}
-use Rattle.hsiao.specs.Outcome.{outcome_by, word_in, count_in}
+use Rattle.hsiao.specs.Outcome.{outcome_by}
+use Rattle.outcomes.specs.Outcome.{word_in, count_in}
 use Rattle.hsiao.specs.declared.word.Word.{Word}
 use Rattle.hsiao.specs.declared.decoding.Decoding.{Decoding}
-use Rattle.hsiao.specs.declared.outcomes.Outcome.TheVariants.{Clean, Far}
+use Rattle.outcomes.specs.declared.ending.Outcome.TheVariants.{Clean, Far}
 
 -- for c check places and these data columns: the answer is that of the outcome, with its count, 255 meaning far; the minimum distance is
 -- 4, and the radius rules hold at 1; the word is clean exactly when its count is 0, and far exactly when that is 255

@@ -1,7 +1,7 @@
 // Decode at radius 1, one word at a time. No word is refused.
 ghost use Rattle.hsiao.specs.Decoded.{Decoded};
 
-use crate::outcomes::{count_in, outcome_of, word_in};
+use crate::ending::outcome_of;
 use crate::word::Word;
 
 // The word and its count; a far word is answered unchanged with count 255.
@@ -16,7 +16,8 @@ pub fn decode(w: Word) -> Decoding
     ensures { Decoded w result }
 {
     let o = outcome_of(w);
-    let word = word_in(o, w);
-    let count = count_in(o);
-    Decoding { word, count }
+    Decoding {
+        word: o.word(w),
+        count: o.count(),
+    }
 }

@@ -5,7 +5,7 @@
 pub mod columns; // the table of the data columns
 pub mod decoding; // Decode at radius 1
 pub mod encoding; // Encode
-pub mod outcomes; // how one word ends
+pub mod ending; // how one word ends
 pub mod read_back; // Message: the data of a codeword
 pub mod syndromes; // syndromes
 pub mod widths; // the codes of 16, 32 and 64 data bits, by this number

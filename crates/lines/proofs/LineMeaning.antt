@@ -50,7 +50,7 @@ pub digits_of_without : (x : ℕ) → x < 48 → (n w : ℕ) → Without x (digi
 unfolding digits_of
 digits_of_without x h n w = digits-without x h (bit w) n
 
-pub ending-without : (o : Outcome) → Without line_feed (ending o)
+pub ending-without : (o : Outcome ℕ) → Without line_feed (ending o)
 ending-without (Clean c) = decimal-without line_feed (omega arith) 0
 ending-without (Mended c d) = decimal-without line_feed (omega arith) d
 ending-without Far = lacks-without line_feed (written "far") refl

@@ -36,10 +36,10 @@ decimal_only_zero : (x : ℕ) → decimal x ≡ written "0" → x ≡ 0
 decimal_only_zero x e = sym (decimal_says x) ∙ ap (said 0) e
 
 -- "far" is shown exactly for a far word, "0" exactly for a clean one, and else the count
-pub shown-ending : (o : Outcome) → Tells o → shown (ending o) ≡ bare o
+pub shown-ending : (o : Outcome ℕ) → Tells o → shown (ending o) ≡ bare o
 shown-ending o t = go o t (List-discrete ℕ_discrete (ending o) (written "far")) (List-discrete ℕ_discrete (ending o) (written "0"))
   where
-    go : (o : Outcome) → Tells o → (f : Dec (ending o ≡ written "far")) (z : Dec (ending o ≡ written "0")) → shown_by (ending o) f z ≡ bare o
+    go : (o : Outcome ℕ) → Tells o → (f : Dec (ending o ≡ written "far")) (z : Dec (ending o ≡ written "0")) → shown_by (ending o) f z ≡ bare o
     go (Clean c) t (yes f) z = absurd (decimal-not_far 0 f)
     go (Clean c) t (no f) (yes z) = refl
     go (Clean c) t (no f) (no z) = absurd (z decimal-zero)

@@ -20,7 +20,7 @@ unfoldable pub digits_of : ℕ → ℕ → List ℕ
 digits_of n w = tabulate (λ i. digit (bit w i)) n
 
 -- how a word ended: the count, or "far"
-abbrev pub ending : Outcome → List ℕ
+abbrev pub ending : Outcome ℕ → List ℕ
 ending (Clean c) = decimal 0
 ending (Mended c count) = decimal count
 ending Far = written "far"

@@ -34,10 +34,10 @@ said a [] = a
 said a (c ∷ cs) = said (a * 10 + (c - 48)) cs
 
 -- the outcome that an ending shows: "far", "0", or else the number that its digits say
-abbrev pub shown_by : (e : List ℕ) → Dec (e ≡ written "far") → Dec (e ≡ written "0") → Outcome
+abbrev pub shown_by : (e : List ℕ) → Dec (e ≡ written "far") → Dec (e ≡ written "0") → Outcome ℕ
 shown_by e (yes f) z = Far
 shown_by e (no f) (yes z) = Clean 0
 shown_by e (no f) (no z) = Mended 0 (said 0 e)
 
-abbrev pub shown : List ℕ → Outcome
+abbrev pub shown : List ℕ → Outcome ℕ
 shown e = shown_by e (List-discrete ℕ_discrete e (written "far")) (List-discrete ℕ_discrete e (written "0"))

@@ -1,4 +1,4 @@
--- Laws of how a word ends: demand 3 holds of the outcome with the leader of its syndrome. Assumes nothing.
+-- Laws of how a word ends: demand 3 holds of the outcome with the leader of its syndrome.
 use mathlib.Core.Path.{◌≡◌, refl, sym, ap, ◌∙◌}
 use mathlib.Core.Logic.{◌↔◌}
 use mathlib.Core.List.{List}
@@ -37,10 +37,10 @@ module _ (reading : Reading) (w e : ℕ) where
       go : Dec (weight e ≡ 0) → (word_in (outcome_of reading w e) w ≡ w ⊕ e) × (count_in (outcome_of reading w e) ≡ weight e)
       go (yes z) =
           let c : outcome_of reading w e ≡ Clean w = simp (eq-eqb (weight e) 0 z) in
-          (ap (λ (o : Outcome). word_in o w) c ∙ sym (ap (λ (x : ℕ). w ⊕ x) (weight_none e z) ∙ xor_zero_r w), ap count_in c ∙ sym z)
+          (ap (λ (o : Outcome ℕ). word_in o w) c ∙ sym (ap (λ (x : ℕ). w ⊕ x) (weight_none e z) ∙ xor_zero_r w), ap count_in c ∙ sym z)
       go (no ne) =
           let c : outcome_of reading w e ≡ Mended (w ⊕ e) (weight e) = simp (ne_eqb (weight e) 0 ne, t) in
-          (ap (λ (o : Outcome). word_in o w) c, ap count_in c)
+          (ap (λ (o : Outcome ℕ). word_in o w) c, ap count_in c)
 
   -- clean exactly when the count is 0, where far is 255
   outcome_clean : (count_in (outcome_of reading w e) ≡ 0) ↔ (outcome_of reading w e ≡ Clean w)

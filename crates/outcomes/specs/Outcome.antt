@@ -13,23 +13,23 @@ takes Nearest d = true
 takes (Within r) d = leb d r
 
 -- the received word w, with the leader e of its syndrome
-abbrev pub outcome_of : Reading → ℕ → ℕ → Outcome
+abbrev pub outcome_of : Reading → ℕ → ℕ → Outcome ℕ
 outcome_of reading w e = cond (eqb (weight e) 0) (Clean w) (cond (takes reading (weight e)) (Mended (w ⊕ e) (weight e)) Far)
 
 -- the slot of the codeword list: a far word stays as received
-abbrev pub word_in : Outcome → ℕ → ℕ
+abbrev pub word_in : {W : Type 0} → Outcome W → W → W
 word_in (Clean c) w = c
 word_in (Mended c d) w = c
 word_in Far w = w
 
 -- the slot of the counts: 255 means far
-abbrev pub count_in : Outcome → ℕ
+abbrev pub count_in : {W : Type 0} → Outcome W → ℕ
 count_in (Clean c) = 0
 count_in (Mended c d) = d
 count_in Far = 255
 
 -- how a received word ends: with the leader of its syndrome
-abbrev pub decoded_as : ℕ → List ℕ → Reading → ℕ → Outcome
+abbrev pub decoded_as : ℕ → List ℕ → Reading → ℕ → Outcome ℕ
 decoded_as n rows reading w = outcome_of reading w (leader_of n rows (syndrome_of n rows w))
 
 abbrev pub word_of : ℕ → List ℕ → Reading → ℕ → ℕ

@@ -13,14 +13,38 @@ pub enum Reading {
 
 // Clean: no error; mended: corrected in so many places; far: a decoding failure.
 #[derive(Clone, Copy)]
-pub enum Outcome {
-    Clean(u32),
-    Mended(u32, u8),
+pub enum Outcome<W> {
+    Clean(W),
+    Mended(W, u8),
     Far,
 }
 
+impl<W: Copy> Outcome<W> {
+    // The word of an outcome; a far word is answered unchanged.
+    pub fn word(self, received: W) -> W
+        ensures { result ≡ word_in self received }
+    {
+        match self {
+            Outcome::Clean(c) => c,
+            Outcome::Mended(c, _) => c,
+            Outcome::Far => received,
+        }
+    }
+
+    // The count of an outcome; 255 means far.
+    pub fn count(self) -> u8
+        ensures { result ≡ count_in self }
+    {
+        match self {
+            Outcome::Clean(_) => 0,
+            Outcome::Mended(_, n) => n,
+            Outcome::Far => 255,
+        }
+    }
+}
+
 // The received word with the leader of its syndrome.
-pub fn outcome_of(reading: Reading, received: u32, leader: u32) -> Outcome
+pub fn outcome_of(reading: Reading, received: u32, leader: u32) -> Outcome<u32>
     ensures { result ≡ outcome_of reading received leader }
 {
     let d = weight(leader);
@@ -34,26 +58,4 @@ pub fn outcome_of(reading: Reading, received: u32, leader: u32) -> Outcome
         return Outcome::Mended(sum(received, leader), d as u8);
     }
     Outcome::Far
-}
-
-// The word of an outcome; a far word is answered unchanged.
-pub fn word_in(o: Outcome, received: u32) -> u32
-    ensures { result ≡ word_in o received }
-{
-    match o {
-        Outcome::Clean(c) => c,
-        Outcome::Mended(c, _) => c,
-        Outcome::Far => received,
-    }
-}
-
-// The count of an outcome; 255 means far.
-pub fn count_in(o: Outcome) -> u8
-    ensures { result ≡ count_in o }
-{
-    match o {
-        Outcome::Clean(_) => 0,
-        Outcome::Mended(_, n) => n,
-        Outcome::Far => 255,
-    }
 }

@@ -3,4 +3,4 @@
 
 pub mod ending; // the reading and the outcome
 
-pub use crate::ending::{Outcome, Reading, count_in, outcome_of, word_in};
+pub use crate::ending::{Outcome, Reading, outcome_of};

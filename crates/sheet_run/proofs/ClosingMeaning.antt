@@ -37,19 +37,19 @@ use Rattle.lines.proofs.LineMeaning.{closing_text, closing_text_lem, closing_wit
 
 -- ---- the lines of an output, each without its line feed
 
-abbrev word_text : ℕ → ℕ → Outcome → List ℕ
+abbrev word_text : ℕ → ℕ → Outcome ℕ → List ℕ
 word_text n w o = digits_of n (word_in o w) ++ (space ∷ ending o)
 
-word_text_lem : (n w : ℕ) (o : Outcome) → word_line n w o ≡ word_text n w o ++ line_feed ∷ []
+word_text_lem : (n w : ℕ) (o : Outcome ℕ) → word_line n w o ≡ word_text n w o ++ line_feed ∷ []
 unfolding word_line
 word_text_lem n w o = simp append_assoc
 
-word-without : (n w : ℕ) (o : Outcome) → Without line_feed (word_text n w o)
+word-without : (n w : ℕ) (o : Outcome ℕ) → Without line_feed (word_text n w o)
 word-without n w o =
     without-append line_feed (digits_of n (word_in o w)) (space ∷ ending o) (digits_of_without line_feed (omega arith) n (word_in o w))
     (λ e. omega arith, ending-without o)
 
-lines_of_words : (n : ℕ) (outcome : ℕ → Outcome) (words rest : List ℕ)
+lines_of_words : (n : ℕ) (outcome : ℕ → Outcome ℕ) (words rest : List ℕ)
     → cut_at line_feed (word_lines n outcome words ++ rest) ≡ map (λ w. word_text n w (outcome w)) words ++ cut_at line_feed rest
 unfolding word_lines
 lines_of_words n outcome [] rest = refl
@@ -59,7 +59,7 @@ lines_of_words n outcome (w ∷ words) rest =
     (word-without n w (outcome w))
     ∙ ap (λ (l : List (List ℕ)). word_text n w (outcome w) ∷ l) (lines_of_words n outcome words rest)
 
-lines_of_batch : (n k d : ℕ) (outcome : ℕ → Outcome) (words : List ℕ) (t : Tally)
+lines_of_batch : (n k d : ℕ) (outcome : ℕ → Outcome ℕ) (words : List ℕ) (t : Tally)
     → cut_at line_feed (code_line n k d ++ word_lines n outcome words ++ closing_line t)
     ≡ code_text n k d ∷ (map (λ w. word_text n w (outcome w)) words ++ closing_text t ∷ [])
 lines_of_batch n k d outcome words t =

@@ -22,11 +22,11 @@ use Rattle.sheet.specs.declared.answer.SheetAnswer.TheVariants as reading
 -- ---- the lines of the words
 
 -- the line of a received word: the digits of the codeword and the count, or the received digits and "far"
-unfoldable pub word_line : ℕ → ℕ → Outcome → List ℕ
+unfoldable pub word_line : ℕ → ℕ → Outcome ℕ → List ℕ
 word_line n w o = digits_of n (word_in o w) ++ space ∷ ending o ++ line_feed ∷ []
 
 -- a line for each word
-unfoldable pub word_lines : ℕ → (ℕ → Outcome) → List ℕ → List ℕ
+unfoldable pub word_lines : ℕ → (ℕ → Outcome ℕ) → List ℕ → List ℕ
 word_lines n outcome [] = []
 word_lines n outcome (w ∷ words) = word_line n w (outcome w) ++ word_lines n outcome words
 

@@ -27,7 +27,6 @@ use Rattle.golay.specs.Decoded.{golay_outcome}
 use Rattle.golay.proofs.GolayDecodeLaws.{golay_rules}
 use Rattle.hsiao.specs.Table.{columns}
 use Rattle.hsiao.specs.Outcome.{outcome_of}
-use Rattle.hsiao.specs.declared.outcomes.Outcome.TheVariants as split
 use Rattle.starred.specs.Matrices.{digits, of_weight, seven, five, four}
 use Rattle.starred.specs.Starred.{Starred}
 
@@ -61,7 +60,7 @@ comes_back : (count_in (golay_outcome received) ≡ 255 → ⊥) × (word_in (go
 comes_back = rules.sent_back codeword is_codeword_lem (rw three-apart (lit≤ tt))
 
 -- an outcome with a count of 3 is Mended, with its word
-mended_by : (o : Outcome) (w c : ℕ) → word_in o w ≡ c → count_in o ≡ 3 → o ≡ Mended c 3
+mended_by : (o : Outcome ℕ) (w c : ℕ) → word_in o w ≡ c → count_in o ≡ 3 → o ≡ Mended c 3
 mended_by (Clean x) w c e q = absurd (omega (arith, q))
 mended_by (Mended x d) w c e q = ap₂ Mended e q
 mended_by Far w c e q = absurd (omega (arith, q))
@@ -121,15 +120,15 @@ ones_encoded : encode columns 0xFFFFFFFFFFFFFFFF ≡ 0x00
 unfolding columns
 ones_encoded = refl
 
-three_far : outcome_of (record { check = 0x00; «data» = 3 }) ≡ split.Far
+three_far : outcome_of (record { check = 0x00; «data» = 3 }) ≡ Far
 unfolding columns
 three_far = refl
 
-no_column_far : outcome_of (record { check = 0x2F; «data» = 0 }) ≡ split.Far
+no_column_far : outcome_of (record { check = 0x2F; «data» = 0 }) ≡ Far
 unfolding columns
 no_column_far = refl
 
-one_mended : outcome_of (record { check = 0x00; «data» = 1 }) ≡ split.Mended (record { check = 0x00; «data» = 0 }) 1
+one_mended : outcome_of (record { check = 0x00; «data» = 1 }) ≡ Mended (record { check = 0x00; «data» = 0 }) 1
 unfolding columns
 one_mended = refl
 

@@ -6,13 +6,13 @@ use Rattle.answers.specs.Refusal.{number_of, value_of}
 use Rattle.answers.specs.declared.answer.Refusal.TheVariants.{NoCodeword, NoWidth, BeyondWidth}
 use Rattle.answers.specs.declared.answer.Answer.TheVariants.{Done, Refused}
 use Rattle.hsiao.specs.Table.{columns}
-use Rattle.hsiao.specs.Outcome.{count_in}
+use Rattle.outcomes.specs.Outcome.{count_in}
 use Rattle.hsiao.specs.Widths.Code.{checks_of, columns_of}
 use Rattle.hsiao.specs.Widths.Causes.{data_answer, word_answer}
 use Rattle.hsiao.specs.Widths.Decoded.{width_outcome}
 use Rattle.hsiao.specs.Widths.MessageRead.{message_answer}
 use Rattle.hsiao.specs.declared.word.Word.{Word}
-use Rattle.hsiao.specs.declared.outcomes.Outcome.TheVariants.{Mended, Far}
+use Rattle.outcomes.specs.declared.ending.Outcome.TheVariants.{Mended, Far}
 
 abbrev pub word : ℕ → ℕ → Word
 word check bits = record { check = check; «data» = bits }

@@ -1,39 +1,24 @@
--- Laws of tables of sums: with each row the sums are twice as many; and the row sums of words from the tables of groups of rows. Assumes
--- nothing.
+-- Laws of tables of sums: with each row the sums are twice as many; and the row sums of words from the tables of groups of rows.
 use mathlib.Core.Path.{◌≡◌, refl, sym, ap, ap₂, ◌∙◌}
-use mathlib.Core.List.{List, [], ◌∷◌, map}
-use Prim.Native.Nat.{ℕ, suc, ◌+◌, ◌-◌, ◌/◌, ◌%◌, ◌^◌, ◌≤◌, ◌<◌, min}
-use native.Mathlib.Decide.{dec_le, ℕ_discrete}
+use mathlib.Core.List.{List, [], ◌∷◌, ◌++◌, map}
+use Prim.Native.Nat.{ℕ, suc, ◌+◌, ◌-◌, ◌*◌, ◌/◌, ◌%◌, ◌^◌, ◌≤◌, ◌<◌, min}
+use native.Mathlib.Decide.{dec_le}
 use native.Mathlib.Nat.{pow-suc}
 use native.Mathlib.Numerals.{add-one}
 use native.Mathlib.Omega.{arith}
-use lib.ListN.{length, get_or, set, take, drop, replicate, length-set, length-map}
-use lib.Seq.{get_or-set_same, get_or-set_other, ext_get_or}
+use lib.ListN.{length, get_or, set, take, drop, replicate, length-set, length-map, length-drop, drop_of_length-le, get_or-eq_default}
+use lib.Seq.{get_or-set_same, ext_get_or, drop-cons, take_at, drop_at, drop-drop, take_all}
+use denote.Ref.{Bor}
+use Rattle.std.proofs.Common.{Iter}
+use Rattle.std.specs.Prelude.{Option, None, Some, unwrap_or}
+use Rattle.std.specs.Option.{option_copied}
+use Rattle.std.specs.Slice.Iter.{iter_rest, iter_steps}
 use Rattle.coding.specs.Lists.{tabulate}
 use Rattle.coding.specs.Word.{◌⊕◌}
 use Rattle.coding.specs.Matrix.{encode}
 use Rattle.coding.proofs.ListLaws.{get_d_map, length-tabulate, get_d_tabulate, tabulate-map}
 use Rattle.coding.proofs.MatrixLaws.{encode-zero, encode_top, encode_group}
 use Rattle.sums.specs.Inner.Doubled.{Doubled}
-
--- ---- one row more
-
-pub doubled_start : (table : List ℕ) (half row : ℕ) → Doubled table half 0 row table
-doubled_start table half row = record { size = refl; kept = λ j h. refl; added = λ j h. absurd (omega arith) }
-
-module _ {before : List ℕ} {half j row : ℕ} {table : List ℕ} (D : Doubled before half j row table) where
-  pub doubled_step : j < half → half + j < length before → Doubled before half (j + 1) row (set table (half + j) (get_or table j 0 ⊕ row))
-  doubled_step h room = record {
-    size = length-set table (half + j) _ ∙ D.size;
-    kept = λ i k. get_or-set_other table (half + j) i _ 0 (omega arith) ∙ D.kept i k;
-    added = λ i k. go i k (ℕ_discrete i j);
-  }
-    where
-      go : (i : ℕ) → i < j + 1 → Dec (i ≡ j) → get_or (set table (half + j) (get_or table j 0 ⊕ row)) (half + i) 0 ≡ get_or before i 0 ⊕ row
-      go i k (yes e) =
-          ap (λ (x : ℕ). get_or (set table (half + j) (get_or table j 0 ⊕ row)) (half + x) 0) e
-          ∙ get_or-set_same table (half + j) _ 0 (omega (arith, D.size)) ∙ ap (λ (x : ℕ). x ⊕ row) (D.kept j h ∙ ap (λ (x : ℕ). get_or before x 0) (sym e))
-      go i k (no ne) = get_or-set_other table (half + j) (half + i) _ 0 (omega arith) ∙ D.added i (omega arith)
 
 -- ---- the first `half` entries are sums, of i rows: twice as many with each, until the table is full
 
@@ -83,10 +68,18 @@ module _ {rows : List ℕ} {i half : ℕ} {table : List ℕ} (S : Summed rows i 
       ext_get_or 0 table (tabulate (encode rows) (length table)) (sym (length-tabulate (encode rows) (length table)))
       (λ j k. S.sums j (omega arith) ∙ sym (get_d_tabulate (encode rows) (length table) j k))
 
--- a table of no entries
-pub summed_none : (rows table : List ℕ) → length table ≡ 0 → table ≡ tabulate (encode rows) (length table)
-summed_none rows [] e = refl
-summed_none rows (x ∷ table) e = absurd (omega arith)
+-- the next of the rows that are left, or 0 after the last
+pub row_next : (rows : List ℕ) (i : ℕ) (s t : Iter ℕ) (r : Option (Bor ℕ)) → iter_rest s ≡ drop i rows → iter_steps s r t
+    → (iter_rest t ≡ drop (i + 1) rows) × (unwrap_or (option_copied r) 0 ≡ get_or rows i 0)
+row_next rows i s t None e (z, k) =
+    let past : length rows ≤ i = omega (arith, length-drop i rows, ap length e) in (
+      ap iter_rest k ∙ e ∙ drop_of_length-le rows past ∙ sym (drop_of_length-le rows (omega arith)),
+      sym (get_or-eq_default rows 0 past),
+    )
+row_next rows i s t (Some x) e k =
+    let more : i < length rows = omega (arith, length-drop i rows, ap length (sym e ∙ k)) in
+    let both : x.now ∷ iter_rest t ≡ get_or rows i 0 ∷ drop (i + 1) rows = sym k ∙ e ∙ rw (add-one, drop-cons rows i 0 more) refl in
+    (cc, cc)
 
 -- ---- the row sums of words, one group of rows after the other
 
@@ -113,3 +106,68 @@ group_added rows words sums table after i e h k few s t a = a ∙ ap (tabulate a
         ap₂ ◌⊕◌ (ap (λ (x : List ℕ). get_or x v 0) s ∙ get_d_map (encode (take i rows)) words v l)
         (ap (λ (x : List ℕ). get_or x entry 0) t ∙ get_d_tabulate (encode (take (e - i) (drop i rows))) 256 entry (omega arith))
         ∙ sym (encode_group rows i e w h k few)
+
+-- after g groups of eight rows the sums are those by the rows of these, and the later rows are left
+pub record Grouped (rows words : List ℕ) (g size : ℕ) (left table sums : List ℕ) : Type 0 where
+  pub eight : size ≡ 8
+  pub later : left ≡ drop (g * 8) rows
+  pub entries : length table ≡ 256
+  pub are : sums ≡ map (encode (take (g * 8) rows)) words
+
+module _ {rows words : List ℕ} {g size : ℕ} {left table sums : List ℕ} (G : Grouped rows words g size left table sums) where
+  -- the group begins before the last row
+  pub group_within : 0 < length left → g * 8 < length rows
+  group_within h = omega (arith, ap length G.later, length-drop (g * 8) rows)
+
+  -- the next group is the first rows that are left
+  module _ (group rest : List ℕ) (parts : left ≡ group ++ rest) (long : length group ≡ min size (length left)) (some : 0 < length left) where
+    abbrev end : ℕ
+    end = g * 8 + length group
+
+    remains : length left ≡ length rows - g * 8
+    remains = ap length G.later ∙ length-drop (g * 8) rows
+
+    within : end ≤ length rows
+    within = omega (arith, remains, group_within some, long)
+
+    group_is : group ≡ take (end - g * 8) (drop (g * 8) rows)
+    group_is =
+        let e : end - g * 8 ≡ length group = omega arith in
+        rw e (sym (take_at group rest (length group) refl) ∙ ap (take (length group)) (sym parts ∙ G.later))
+
+    rest_is : rest ≡ drop end rows
+    rest_is =
+        sym (drop_at group rest (length group) refl) ∙ ap (drop (length group)) (sym parts ∙ G.later) ∙ drop-drop (length group) (g * 8) rows
+
+    -- the group is whole, or the last
+    upto : (take end rows ≡ take ((g + 1) * 8) rows) × (rest ≡ drop ((g + 1) * 8) rows)
+    upto = go (dec_le 8 (length left))
+      where
+        go : Dec (8 ≤ length left) → (take end rows ≡ take ((g + 1) * 8) rows) × (rest ≡ drop ((g + 1) * 8) rows)
+        go (yes h) =
+            let e : end ≡ (g + 1) * 8 = omega (arith, long, G.eight) in
+            (ap (λ (i : ℕ). take i rows) e, rest_is ∙ ap (λ (i : ℕ). drop i rows) e)
+        go (no h) =
+            let past : length rows ≤ end = omega (arith, remains, long, G.eight) in
+            let next : length rows ≤ (g + 1) * 8 = omega (arith, remains) in (
+              take_all end rows past ∙ sym (take_all ((g + 1) * 8) rows next),
+              rest_is ∙ drop_of_length-le rows past ∙ sym (drop_of_length-le rows next),
+            )
+
+    pub grouped_next : {h next place : ℕ} {entries after : List ℕ} → h ≡ g + 1 → next ≡ size → place ≡ g * 8
+        → entries ≡ tabulate (encode group) (length table)
+        → after ≡ tabulate (λ v. get_or sums v 0 ⊕ get_or entries (get_or words v 0 / 2 ^ place % 256) 0) (length sums)
+        → Grouped rows words h next rest entries after
+    grouped_next e n p t a = record {
+      eight = n ∙ G.eight;
+      later = rw e upto.1;
+      entries = ap length t ∙ length-tabulate (encode group) (length table) ∙ G.entries;
+      are =
+          rw e (group_added rows words sums _ _ (g * 8) end (omega arith) within (omega (arith, long, G.eight)) G.are
+          (t ∙ ap₂ (λ (l : List ℕ) (n : ℕ). tabulate (encode l) n) group_is G.entries) (rw p at a)
+          ∙ ap (λ (l : List ℕ). map (encode l) words) upto.0);
+    }
+
+  pub grouped_end : length left ≡ 0 → sums ≡ map (encode rows) words
+  grouped_end z =
+      G.are ∙ ap (λ (l : List ℕ). map (encode l) words) (take_all (g * 8) rows (omega (arith, ap length G.later, length-drop (g * 8) rows)))

@@ -4,7 +4,6 @@ ghost use Rattle.coding.specs.Matrix.{encode};
 
 use crate::tables::sums_by_tables;
 use words::limits::WIDTH;
-use words::lists::smaller;
 use words::word::selected;
 
 // From so many words on tables are worth their making.
@@ -14,13 +13,11 @@ const MANY: usize = 16;
 pub fn row_sum(rows: &[u32], message: u32) -> u32
     ensures { result ≡ encode rows.now message }
 {
-    let mut sum: u32 = 0;
+    let mut sum = 0;
     let mut m = message;
-    let mut i: usize = 0;
-    while i < rows.len() {
-        sum = sum ^ selected(rows[i], m);
-        m = m >> 1;
-        i += 1;
+    for &row in rows {
+        sum ^= selected(row, m);
+        m >>= 1;
     }
     sum
 }
@@ -30,10 +27,8 @@ fn sums_one_by_one(rows: &[u32], words: &[u32], sums: &mut [u32])
     requires { length words.now ≡ length sums.old }
     ensures { sums.new ≡ map (encode rows.now) words.now }
 {
-    let mut i: usize = 0;
-    while i < words.len() {
-        sums[i] = row_sum(rows, words[i]);
-        i += 1;
+    for (i, sum) in sums.iter_mut().enumerate() {
+        *sum = row_sum(rows, words[i]);
     }
 }
 
@@ -55,6 +50,6 @@ pub fn row_sums(rows: &[u32], words: &[u32], out: &mut [u32])
         ≡ map (encode rows.now) (take (length out.old) words.now)
         ++ drop (length words.now) out.old }
 {
-    let m = smaller(words.len(), out.len());
+    let m = words.len().min(out.len());
     sums_of(rows, &words[..m], &mut out[..m]);
 }

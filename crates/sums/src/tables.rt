@@ -6,8 +6,6 @@ ghost use Rattle.coding.specs.Matrix.{encode};
 ghost use Rattle.words.specs.Limits.{width};
 ghost use Rattle.sums.specs.Inner.Doubled.{Doubled};
 
-use words::lists::{entry_at, fill, smaller};
-
 // The rows of a table, and its sums.
 const TABLE_ROWS: usize = 8;
 
@@ -18,10 +16,8 @@ fn double(table: &mut [u32], half: usize, count: usize, row: u32)
     requires { (count ≤ half) × (half + count ≤ length table.old) }
     ensures { Doubled table.old half count row table.new }
 {
-    let mut j: usize = 0;
-    while j < count {
+    for j in 0..count {
         table[half + j] = table[j] ^ row;
-        j += 1;
     }
 }
 
@@ -29,17 +25,17 @@ fn double(table: &mut [u32], half: usize, count: usize, row: u32)
 pub fn fill_sums(rows: &[u32], table: &mut [u32])
     ensures { table.new ≡ tabulate (encode rows.now) (length table.old) }
 {
-    if table.len() == 0 {
+    if table.is_empty() {
         return;
     }
     table[0] = 0;
-    let mut half: usize = 1;
-    let mut i: usize = 0;
+    let mut half = 1;
+    let mut left = rows.iter();
     while half < table.len() {
-        let count = smaller(half, table.len() - half);
-        double(table, half, count, entry_at(rows, i));
+        let count = half.min(table.len() - half);
+        let row = left.next().copied().unwrap_or(0);
+        double(table, half, count, row);
         half += count;
-        i += 1;
     }
 }
 
@@ -50,10 +46,8 @@ fn add_from(table: &[u32; TABLE], place: usize, words: &[u32], sums: &mut [u32])
         ≡ tabulate (λ v. get_or sums.old v 0 ⊕ get_or table.now (get_or words.now v 0 / 2 ^ place % 256) 0)
         (length sums.old) }
 {
-    let mut v: usize = 0;
-    while v < sums.len() {
-        sums[v] = sums[v] ^ table[((words[v] >> place) & 255) as usize];
-        v += 1;
+    for (v, sum) in sums.iter_mut().enumerate() {
+        *sum ^= table[((words[v] >> place) & 255) as usize];
     }
 }
 
@@ -62,13 +56,10 @@ pub(crate) fn sums_by_tables(rows: &[u32], words: &[u32], sums: &mut [u32])
     requires { (length rows.now ≤ width) × (length words.now ≡ length sums.old) }
     ensures { sums.new ≡ map (encode rows.now) words.now }
 {
-    fill(sums, 0);
+    sums.fill(0);
     let mut table = [0u32; TABLE];
-    let mut i: usize = 0;
-    while i < rows.len() {
-        let end = smaller(i + TABLE_ROWS, rows.len());
-        fill_sums(&rows[i..end], &mut table);
-        add_from(&table, i, words, sums);
-        i = end;
+    for (g, group) in rows.chunks(TABLE_ROWS).enumerate() {
+        fill_sums(group, &mut table);
+        add_from(&table, g * TABLE_ROWS, words, sums);
     }
 }

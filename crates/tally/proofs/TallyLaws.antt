@@ -20,53 +20,53 @@ use Rattle.tally.specs.Tally.{adds, tally_of}
 use Rattle.tally.specs.Slots.{slot_outcome, slot_tally}
 
 -- what one word adds to each number
-abbrev clean_in : Outcome → ℕ
+abbrev clean_in : Outcome ℕ → ℕ
 clean_in o = (adds o).clean
 
-abbrev mended_in : Outcome → ℕ
+abbrev mended_in : Outcome ℕ → ℕ
 mended_in o = (adds o).mended
 
-abbrev far_in : Outcome → ℕ
+abbrev far_in : Outcome ℕ → ℕ
 far_in o = (adds o).far
 
-abbrev places_in : Outcome → ℕ
+abbrev places_in : Outcome ℕ → ℕ
 places_in o = (adds o).places
 
 -- every word is counted once: the numbers of clean, mended and far words add to the number of words
-totals_add : (os : List Outcome) → total (map clean_in os) + total (map mended_in os) + total (map far_in os) ≡ length os
+totals_add : (os : List (Outcome ℕ)) → total (map clean_in os) + total (map mended_in os) + total (map far_in os) ≡ length os
 totals_add [] = refl
 totals_add (Clean c ∷ os) = omega (arith, totals_add os)
 totals_add (Mended c d ∷ os) = omega (arith, totals_add os)
 totals_add (Far ∷ os) = omega (arith, totals_add os)
 
-pub tally_adds : (os : List Outcome) → let t = tally_of os in t.clean + t.mended + t.far ≡ length os
+pub tally_adds : (os : List (Outcome ℕ)) → let t = tally_of os in t.clean + t.mended + t.far ≡ length os
 unfolding tally_of
 tally_adds os = totals_add os
 
 -- ---- the codewords do not count
 
 -- an outcome without its codeword, and what says nothing of the codeword
-abbrev pub bare : Outcome → Outcome
+abbrev pub bare : Outcome ℕ → Outcome ℕ
 bare (Clean c) = Clean 0
 bare (Mended c d) = Mended 0 d
 bare Far = Far
 
-pub bare_says : {A : Type 0} (f : Outcome → A) → ((c : ℕ) → f (Clean 0) ≡ f (Clean c)) → ((c d : ℕ) → f (Mended 0 d) ≡ f (Mended c d))
-    → (o : Outcome) → f (bare o) ≡ f o
+pub bare_says : {A : Type 0} (f : Outcome ℕ → A) → ((c : ℕ) → f (Clean 0) ≡ f (Clean c)) → ((c d : ℕ) → f (Mended 0 d) ≡ f (Mended c d))
+    → (o : Outcome ℕ) → f (bare o) ≡ f o
 bare_says f clean mended (Clean c) = clean c
 bare_says f clean mended (Mended c d) = mended c d
 bare_says f clean mended Far = refl
 
-bare-total : (f : Outcome → ℕ) → ((o : Outcome) → f (bare o) ≡ f o) → (os : List Outcome) → total (map f (map bare os)) ≡ total (map f os)
+bare-total : (f : Outcome ℕ → ℕ) → ((o : Outcome ℕ) → f (bare o) ≡ f o) → (os : List (Outcome ℕ)) → total (map f (map bare os)) ≡ total (map f os)
 bare-total f same [] = refl
 bare-total f same (o ∷ os) = ap₂ ◌+◌ (same o) (bare-total f same os)
 
 -- whatever is told of each word: if its outcome can be read from it, but for the codeword, so can the tally
-pub tally_read : {A : Type 0} (outcome : ℕ → Outcome) (told : ℕ → A) (read : A → Outcome) → ((w : ℕ) → read (told w) ≡ bare (outcome w))
+pub tally_read : {A : Type 0} (outcome : ℕ → Outcome ℕ) (told : ℕ → A) (read : A → Outcome ℕ) → ((w : ℕ) → read (told w) ≡ bare (outcome w))
     → (words : List ℕ) → tally_of (map read (map told words)) ≡ tally_of (map outcome words)
 unfolding tally_of
 tally_read {A} outcome told read same words =
-    let sum : (f : Outcome → ℕ) → ((c : ℕ) → f (Clean 0) ≡ f (Clean c)) → ((c d : ℕ) → f (Mended 0 d) ≡ f (Mended c d))
+    let sum : (f : Outcome ℕ → ℕ) → ((c : ℕ) → f (Clean 0) ≡ f (Clean c)) → ((c d : ℕ) → f (Mended 0 d) ≡ f (Mended c d))
     → total (map f (map bare (map outcome words))) ≡ total (map f (map outcome words))
     = λ f clean mended. bare-total f (bare_says f clean mended) (map outcome words) in
     rw (
@@ -84,12 +84,12 @@ tally_read {A} outcome told read same words =
 -- ---- slots of the counts
 
 -- the count tells how the word ended: that of a mended word is neither 0 nor 255
-abbrev pub Tells : Outcome → Type 0
+abbrev pub Tells : Outcome ℕ → Type 0
 Tells (Clean c) = Unit {0}
 Tells (Mended c d) = (d ≡ 0 → ⊥) × (d ≡ 255 → ⊥)
 Tells Far = Unit {0}
 
-pub slot_says : (o : Outcome) → Tells o → slot_outcome (count_in o) ≡ bare o
+pub slot_says : (o : Outcome ℕ) → Tells o → slot_outcome (count_in o) ≡ bare o
 slot_says (Clean c) t = refl
 slot_says (Mended c d) t = rw (ne_eqb d 255 t.1, ne_eqb d 0 t.0) refl
 slot_says Far t = refl
@@ -111,7 +111,7 @@ slot_tests count = go (ℕ_discrete count 255) (ℕ_discrete count 0)
     go (no n) (no z) = rw (ne_eqb count 255 n, ne_eqb count 0 z) (refl, refl)
 
 -- a slot that is not 255 has its count
-pub slot_number : {A : Type 0} (f : Outcome → A) (g : ℕ → A) → g 0 ≡ f (Clean 0) → ((d : ℕ) → g d ≡ f (Mended 0 d))
+pub slot_number : {A : Type 0} (f : Outcome ℕ → A) (g : ℕ → A) → g 0 ≡ f (Clean 0) → ((d : ℕ) → g d ≡ f (Mended 0 d))
     → (count : ℕ) → (count ≡ 255 → ⊥) → g count ≡ f (slot_outcome count)
 slot_number {A} f g clean mended count n = go (ℕ_discrete count 0)
   where
@@ -133,10 +133,10 @@ slot_places count = go (ℕ_discrete count 255)
 -- ---- a loop over the slots: the words of the first i are counted
 
 -- the sum over the first i slots
-abbrev sum_to : (Outcome → ℕ) → List ℕ → ℕ → ℕ
+abbrev sum_to : (Outcome ℕ → ℕ) → List ℕ → ℕ → ℕ
 sum_to f counts i = total (map f (map slot_outcome (take i counts)))
 
-sum_more : (f : Outcome → ℕ) (counts : List ℕ) (i : ℕ) → i < length counts
+sum_more : (f : Outcome ℕ → ℕ) (counts : List ℕ) (i : ℕ) → i < length counts
     → sum_to f counts (suc i) ≡ sum_to f counts i + f (slot_outcome (get_or counts i 0))
 sum_more f [] i h = absurd (omega arith)
 sum_more f (c ∷ counts) zero h = omega arith

@@ -6,7 +6,7 @@ use Rattle.tally.specs.Tally.{tally_of}
 use Rattle.tally.specs.declared.tally.Tally.{Tally}
 
 -- the outcome that a slot of the counts tells, the codeword left out
-abbrev pub slot_outcome : ℕ → Outcome
+abbrev pub slot_outcome : ℕ → Outcome ℕ
 slot_outcome count = cond (eqb count 255) Far (cond (eqb count 0) (Clean 0) (Mended 0 count))
 
 -- the tally of the slots

@@ -2,16 +2,17 @@
 use Rattle.std.specs.Prelude.{◌≡◌, ℕ}
 use Rattle.answers.specs.Refusal.{if_done}
 use Rattle.answers.specs.declared.answer.Answer.TheVariants.{Done}
-use Rattle.hsiao.specs.Outcome.{outcome_by, word_in, count_in}
+use Rattle.hsiao.specs.Outcome.{outcome_by}
+use Rattle.outcomes.specs.Outcome.{word_in, count_in}
 use Rattle.hsiao.specs.Decoded.{DecodedBy}
 use Rattle.hsiao.specs.Widths.Code.{checks_of, columns_of}
 use Rattle.hsiao.specs.Widths.Causes.{word_answer}
 use Rattle.hsiao.specs.declared.word.Word.{Word}
-use Rattle.hsiao.specs.declared.outcomes.Outcome.{Outcome}
+use Rattle.outcomes.specs.declared.ending.Outcome.{Outcome}
 use Rattle.hsiao.specs.declared.widths.decoding.Decoding.{Decoding}
 
 -- how a received word ends in the code of a width
-abbrev pub width_outcome : ℕ → Word → Outcome
+abbrev pub width_outcome : ℕ → Word → Outcome Word
 width_outcome width w = outcome_by (checks_of width) (columns_of width) w
 
 -- what stands for the word on a refusal

@@ -6,7 +6,7 @@ ghost use Rattle.hsiao.specs.Widths.Code.{is_width, checks_of};
 ghost use Rattle.hsiao.specs.Widths.Decoded.{no_word, Decoded};
 
 use crate::columns::COLUMNS;
-use crate::outcomes::{count_in, outcome_at, word_in};
+use crate::ending::outcome_at;
 use crate::syndromes::syndrome;
 use crate::widths::has_places;
 use crate::word::Word;
@@ -44,12 +44,10 @@ fn decoded(table: &[u8; 64], width: u8, checks: u8, w: Word) -> Decoding
     }
     let s = syndrome(w);
     let o = outcome_at(table, width, w, s);
-    let word = word_in(o, w);
-    let count = count_in(o);
     Decoding {
         answer: Answer::Done,
-        word,
-        count,
+        word: o.word(w),
+        count: o.count(),
     }
 }
 

@@ -31,9 +31,9 @@ loop-i-preserved c =
     (omega (arith, within, length-tabulate (word_at a.reading a.words.now a.out.now) m))) in (
       omega (arith, h),
       over-tabulate_step (word_at a.reading a.words.now a.out.now) m out _ h (omega (arith, h, c.requires))
-          (c.word_in.ensures ∙ ap (λ (x : Outcome). word_in x w) ended),
+          (c.word.ensures ∙ ap (λ (x : Outcome ℕ). word_in x w) ended),
       over-tabulate_step (count_at a.reading a.words.now a.out.now) m counts _ h (omega (arith, h, c.requires))
-          (c.count_in.ensures ∙ ap count_in ended),
+          (c.count.ensures ∙ ap count_in ended),
     )
 
 pub returns-clause-codewords : goal.returns-clause-codewords

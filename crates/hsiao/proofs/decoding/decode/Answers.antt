@@ -1,8 +1,9 @@
 -- The answer and count of the outcome.
 use Rattle.std.proofs.Common.{ap, ◌∙◌, arith}
 use Rattle.hsiao.specs.Table.{columns}
-use Rattle.hsiao.specs.Outcome.{word_in, count_in}
-use Rattle.hsiao.specs.declared.outcomes.Outcome.{Outcome}
+use Rattle.outcomes.specs.Outcome.{word_in, count_in}
+use Rattle.outcomes.specs.declared.ending.Outcome.{Outcome}
+use Rattle.hsiao.specs.declared.word.Word.{Word}
 use Rattle.hsiao.proofs.HsiaoTableLaws.{columns-odd, word-places, distance-four}
 use Rattle.hsiao.proofs.HsiaoDecodeLaws.{decoded_by}
 use Rattle.hsiao.proofs.decoding.decode.Goals as goal
@@ -12,4 +13,4 @@ returns c =
     let w = c.args.w in
     let e = c.outcome_of-o.ensures in
     decoded_by 8 columns columns-odd distance-four w (word-places w (omega arith) (omega arith)) _
-    (c.word_in-word.ensures ∙ ap (λ (o : Outcome). word_in o w) e) (c.count_in-count.ensures ∙ ap count_in e)
+    (c.word.ensures ∙ ap (λ (o : Outcome Word). word_in o w) e) (c.count.ensures ∙ ap count_in e)

@@ -1,12 +1,8 @@
--- The sum so far, and the rows from i on with what is left of the message, make the codeword.
-use Rattle.std.proofs.Common.{length, ◌-◌, ◌≡◌, drop, ◌≤◌}
+-- The sum so far, and the rows that are left with what is left of the message, make the codeword.
+use Rattle.std.proofs.Common.{◌≡◌, drop}
 use Rattle.coding.specs.Matrix.{encode}
 use Rattle.coding.specs.Word.{◌⊕◌}
 use Rattle.sums.proofs.sums.row_sum.Given as goal
 
-abbrev pub invariant-loop-i : goal.invariant-loop-i
-invariant-loop-i l = (l.i ≤ length l.rows) × (l.sum ⊕ encode (drop l.i l.rows) l.m ≡ encode l.rows l.message)
-
--- proposed from the loop's first test
-abbrev pub decreases-loop-i : goal.decreases-loop-i
-decreases-loop-i l = length l.rows - l.i
+abbrev pub invariant-loop-row : goal.invariant-loop-row
+invariant-loop-row l = l.sum ⊕ encode (drop l.row-index l.rows) l.m ≡ encode l.rows l.message

@@ -5,8 +5,6 @@ use Rattle.coding.proofs.LoopLaws.{over-map_step}
 use Rattle.sums.proofs.sums.sums_one_by_one.Goals as goal
 
 pub loop-i-preserved : goal.loop-i-preserved
-loop-i-preserved c = (
-  omega arith,
-  over-map_step (encode c.args.rows.now) c.args.words.now c.loop-i.invariant.1 _ c.loop-i-test.true (omega (arith, c.requires))
-      c.row_sum.ensures,
-)
+loop-i-preserved c =
+    let O = c.loop-i.invariant in
+    over-map_step (encode c.args.rows.now) c.args.words.now O _ (omega (arith, O.long)) (omega (arith, O.long)) c.row_sum.ensures

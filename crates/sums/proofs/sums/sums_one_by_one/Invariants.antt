@@ -1,12 +1,8 @@
 -- The first i slots are the row sums.
-use Rattle.std.proofs.Common.{length, ◌-◌, map, ◌≤◌}
+use Rattle.std.proofs.Common.{map}
 use Rattle.coding.specs.Matrix.{encode}
 use Rattle.coding.proofs.LoopLaws.{Over}
 use Rattle.sums.proofs.sums.sums_one_by_one.Given as goal
 
 abbrev pub invariant-loop-i : goal.invariant-loop-i
-invariant-loop-i l = (l.i ≤ length l.words) × Over (map (encode l.rows) l.words) l.initial.sums l.i l.sums
-
--- proposed from the loop's first test
-abbrev pub decreases-loop-i : goal.decreases-loop-i
-decreases-loop-i l = length l.words - l.i
+invariant-loop-i l = Over (map (encode l.rows) l.words) l.initial.sums l.i l.sums

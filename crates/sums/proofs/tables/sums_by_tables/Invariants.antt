@@ -1,12 +1,10 @@
--- The sums by the first i rows.
-use Rattle.std.proofs.Common.{length, ◌-◌, ◌≡◌, map, ◌≤◌}
-use Rattle.coding.specs.Matrix.{encode}
-use lib.ListN.{take}
+-- After so many groups the sums are those by the rows of these.
+use Rattle.std.specs.Slice.Iter.{chunks_rest, chunks_size}
+use Rattle.std.specs.Iterator.Adapters.{enumerate_source, enumerate_count}
+use Rattle.sums.proofs.TableLaws.{Grouped}
 use Rattle.sums.proofs.tables.sums_by_tables.Given as goal
 
-abbrev pub invariant-loop-i : goal.invariant-loop-i
-invariant-loop-i l = (l.i ≤ length l.rows) × (length l.table ≡ 256) × (l.sums ≡ map (encode (take l.i l.rows)) l.words)
-
--- proposed from the loop's first test
-abbrev pub decreases-loop-i : goal.decreases-loop-i
-decreases-loop-i l = length l.rows - l.i
+abbrev pub invariant-loop-g : goal.invariant-loop-g
+invariant-loop-g l =
+    let groups = enumerate_source l.g-iterator in
+    Grouped l.rows l.words (enumerate_count l.g-iterator) (chunks_size groups) (chunks_rest groups) l.table l.sums

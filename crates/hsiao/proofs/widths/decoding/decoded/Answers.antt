@@ -1,10 +1,11 @@
 -- The outcome by the first columns of the table is that of the width's code.
 use Rattle.std.proofs.Common.{◌≡◌, refl, sym, ap, ◌∙◌, true}
-use Rattle.hsiao.specs.Outcome.{word_in, count_in}
+use Rattle.outcomes.specs.Outcome.{word_in, count_in}
 use Rattle.hsiao.specs.Widths.Code.{checks_of}
 use Rattle.hsiao.specs.Widths.Causes.{has_places}
 use Rattle.hsiao.specs.Widths.Decoded.{width_outcome}
-use Rattle.hsiao.specs.declared.outcomes.Outcome.{Outcome}
+use Rattle.outcomes.specs.declared.ending.Outcome.{Outcome}
+use Rattle.hsiao.specs.declared.word.Word.{Word}
 use Rattle.hsiao.proofs.WidthCodeLaws.{width_code, places_of, outcome_is}
 use Rattle.hsiao.proofs.WidthAnswerLaws.{decode_done}
 use Rattle.hsiao.proofs.widths.decoding.decoded.Goals as goal
@@ -18,4 +19,4 @@ returns c =
     let C = width_code a.width t in
     let o : c.outcome_at-o.result ≡ width_outcome a.width a.w =
     c.outcome_at-o.ensures ∙ outcome_is a.width C a.w (places_of a.width C a.w u) c.syndrome-s.result c.syndrome-s.ensures.sum in
-    decode_done a.width t a.w _ u refl (c.word_in-word.ensures ∙ ap (λ (x : Outcome). word_in x a.w) o) (c.count_in-count.ensures ∙ ap count_in o)
+    decode_done a.width t a.w _ u refl (c.word.ensures ∙ ap (λ (x : Outcome Word). word_in x a.w) o) (c.count.ensures ∙ ap count_in o)

@@ -4,7 +4,7 @@ use lib.Seq.{take_all}
 use Rattle.hsiao.specs.Table.{columns}
 use Rattle.hsiao.specs.Outcome.{outcome_at}
 use Rattle.hsiao.proofs.HsiaoTableLaws.{columns-length}
-use Rattle.hsiao.proofs.outcomes.outcome_of.Goals as goal
+use Rattle.hsiao.proofs.ending.outcome_of.Goals as goal
 
 pub outcome_at-requires : goal.outcome_at-requires
 unfolding columns
