@@ -9,17 +9,11 @@ ghost use Rattle.parity.specs.ParityChecks.{CodeOf, ParityChecksOf};
 ghost use Rattle.parity.specs.Syndromes.{SyndromeOf};
 
 use crate::batch::syndromes;
-use answers::Answer;
+use answers::Refusal;
 use linear::reduce;
 use words::limits::{MAX_CHECKS, MAX_ROWS, WIDTH};
+use words::shape::Matrix;
 use words::word::{parity, place};
-
-// The answer to a matrix, and where it is accepted its n - k check rows; 0 at every other entry.
-#[derive(Drop)]
-pub struct ParityChecks {
-    pub answer: Answer,
-    pub rows: [u32; MAX_CHECKS],
-}
 
 // The digits of the entries joined into a word, that of the first as the lowest place.
 fn joined<F: Fn(u32) -> u32>(list: &[u32], digit: F) -> u32
@@ -83,44 +77,26 @@ fn check_rows(table: &[u32], n: usize) -> [u32; MAX_CHECKS]
 // that pivot as its codeword; 0 at every other entry.
 #[derive(Drop)]
 pub struct Code {
-    pub answer: Answer,
     pub rows: [u32; MAX_ROWS],
     pub checks: [u32; MAX_CHECKS],
     pub messages: [u32; WIDTH],
 }
 
 // Parts 1 and 2 from one elimination.
-pub fn code_of(n: u32, k: u32, rows: &[u32]) -> Code
-    ensures { CodeOf n k rows.now result }
+pub fn code_of(matrix: &Matrix) -> Result<Code, Refusal>
+    ensures { CodeOf matrix.now.n matrix.now.k matrix.now.rows.now result }
 {
-    let r = reduce(n, k, rows);
-    let answer = r.answer;
-    let Answer::Done = answer else {
-        return Code {
-            answer,
-            rows: [0u32; MAX_ROWS],
-            checks: [0u32; MAX_CHECKS],
-            messages: [0u32; WIDTH],
-        };
-    };
-    let table = r.table;
-    let checks = check_rows(&table, n as usize);
-    let rows = r.rows;
-    let messages = r.messages;
-    Code {
-        answer: Answer::Done,
-        rows,
-        checks,
-        messages,
-    }
+    let r = reduce(matrix)?;
+    Ok(Code {
+        rows: r.rows,
+        checks: check_rows(&r.table, matrix.n as usize),
+        messages: r.messages,
+    })
 }
 
-// The parity-check rows of an accepted matrix.
-pub fn parity_checks(n: u32, k: u32, rows: &[u32]) -> ParityChecks
-    ensures { ParityChecksOf n k rows.now result }
+// The parity-check rows of an accepted matrix: its n - k check rows, and 0 after them.
+pub fn parity_checks(matrix: &Matrix) -> Result<[u32; MAX_CHECKS], Refusal>
+    ensures { ParityChecksOf matrix.now.n matrix.now.k matrix.now.rows.now result }
 {
-    let c = code_of(n, k, rows);
-    let answer = c.answer;
-    let rows = c.checks;
-    ParityChecks { answer, rows }
+    Ok(code_of(matrix)?.checks)
 }

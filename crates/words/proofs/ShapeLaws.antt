@@ -12,14 +12,14 @@ use borrow.Author.Tests.{leb-true, le-leb, eqb-true, eq-eqb, lt-ltb, ltb-true, l
 use Rattle.coding.specs.Matrix.{Inside}
 use Rattle.coding.proofs.SearchLaws.{first_is, first-before, first-le, first_hit}
 use Rattle.words.specs.Limits.{max_places, max_rows, max_checks, width, InRange, in_range}
-use Rattle.answers.specs.Refusal.{refuse_first, and_then, Never, Answer, done}
+use Rattle.answers.specs.Refusal.{refuse_first, and_then, Never, Answer, done, answered, answer_of}
 use Rattle.words.specs.Shape.{outside, first_outside, some_outside, shape_answer}
-use Rattle.std.specs.Prelude.{Option, Some, None, fold, bit_or, cond, nat_lt}
+use Rattle.std.specs.Prelude.{Result, Option, Some, None, fold, bit_or, cond, nat_lt}
 use Rattle.std.proofs.lemmas.Nat.{le_or_l, le_or_r}
 use Rattle.std.specs.List.{position_or_len}
 use Rattle.std.proofs.lemmas.List.Sums.{position_or_len_is}
 use Rattle.words.specs.Widest.{EveryRow}
-use Rattle.answers.proofs.AnswerLaws.{unless_done, first_passes, first_done, Numbered, Neither, neither, unless-numbered, then_never}
+use Rattle.answers.proofs.AnswerLaws.{answer_of-answered, unless_done, first_passes, first_done, Numbered, Neither, neither, unless-numbered, then_never}
 use Rattle.answers.specs.declared.answer.Refusal.{Refusal}
 use Rattle.answers.specs.declared.answer.Refusal.TheVariants.{OutOfRange, RowCount, RowOutside}
 
@@ -159,6 +159,10 @@ shape_passes k rows f =
 -- 02, No. 7: an answer that is named in another way
 pub every_row_of : {n : ℕ} (r answer : Answer) → r ≡ answer → EveryRow n r → EveryRow n answer
 every_row_of r answer e f w = rw e at (f w)
+
+pub every_row_answered : {n : ℕ} {A : Type 0} (x : A) (r : Result A Refusal) (answer : Answer) → r ≡ answered answer x → EveryRow n (answer_of r)
+    → EveryRow n answer
+every_row_answered x r answer e f = every_row_of (answer_of r) answer (ap answer_of e ∙ answer_of-answered answer x) f
 
 -- and 3 is a cause of the first group alone
 pub rows_first : (n : ℕ) (a later r : Answer) → r ≡ and_then a later → EveryRow n a → Never 3 later → EveryRow n r

@@ -5,7 +5,7 @@ use Rattle.answers.specs.Refusal.{Answer, answer_of}
 use Rattle.answers.specs.declared.answer.Refusal.{Refusal}
 use Rattle.answers.proofs.AnswerLaws.{handed_on, answer_of-answered}
 use Rattle.words.specs.Accepted.{matrix_answer}
-use Rattle.words.proofs.ShapeLaws.{every_row_of}
+use Rattle.words.proofs.ShapeLaws.{every_row_answered}
 use Rattle.words.proofs.AcceptedLaws.{accepted_in, in_accepted, found_in}
 use Rattle.linear.specs.Judged.{Judged}
 use Rattle.linear.specs.Reduction.{ReductionOf}
@@ -19,7 +19,7 @@ judged n k rows r R a e =
       answer = w;
       accepted = λ d. accepted_in n k rows (sym w ∙ d);
       accepts = λ h. w ∙ in_accepted n k rows h;
-      every_row = every_row_of _ a (ap answer_of R.reduced.is ∙ answer_of-answered (matrix_answer n k rows) _ ∙ sym w) R.reduced.every_row;
+      every_row = rw w (every_row_answered _ _ _ R.reduced.is R.reduced.every_row);
       found = λ i d. found_in n k rows i (sym w ∙ d);
     }
 

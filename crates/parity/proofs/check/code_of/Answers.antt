@@ -1,29 +1,42 @@
 -- The table of an accepted matrix gives the check rows of the definition.
-use Rattle.std.proofs.Common.{sym, ap, ◌∙◌, arith}
+use Rattle.std.proofs.Common.{◌≡◌, List, ℕ, sym, ap, ap₂, ◌∙◌, arith}
+use Rattle.std.specs.Prelude.{Ok}
 use Rattle.coding.specs.Lists.{padded}
-use Rattle.words.specs.Limits.{max_checks}
-use Rattle.words.proofs.ShapeLaws.{every_row_of}
+use Rattle.coding.specs.Reduce.{reduced_rows}
+use Rattle.coding.specs.Check.{checks}
+use Rattle.words.specs.Limits.{max_rows, max_checks}
+use Rattle.words.specs.Accepted.{matrix_answer}
 use Rattle.words.proofs.AcceptedLaws.{accepted_in}
-use Rattle.linear.proofs.PivotTableLaws.{table_size, table_of}
-use Rattle.parity.proofs.ParityLaws.{checks_few, checks_are, parity-checks}
+use Rattle.answers.proofs.AnswerLaws.{handed_on, err_answered, answered_err, ok_answered, answered_ok}
+use Rattle.linear.specs.Reduction.{messages_by_pivot}
+use Rattle.linear.specs.declared.reduction.Reduction.{Reduction}
+use Rattle.linear.proofs.PivotTableLaws.{table_size}
+use Rattle.parity.proofs.ParityLaws.{checks_few, checks_are, code_lem}
 use Rattle.parity.proofs.check.code_of.Goals as goal
 
-pub check_rows-checks-requires : goal.check_rows-checks-requires
-check_rows-checks-requires c =
-    let R = c.reduce-r.ensures in
-    let A = accepted_in _ _ _ (sym R.reduced.answer ∙ c.in-Done.is) in
-    let t = table_of R c.in-Done.is in
+pub returns-in_err-r : goal.returns-in_err-r
+returns-in_err-r c =
+    let m = c.args.matrix.now in
+    let a = matrix_answer m.n m.k m.rows.now in
+    let e = answered_err a _ _ (sym c.in_err-r.was ∙ c.reduce.ensures.is) in
+    code_lem c.reduce.ensures _ (handed_on _ _ c.from_residual.ensures ∙ err_answered a _ _ e)
+
+pub check_rows-requires : goal.check_rows-requires
+check_rows-requires c =
+    let (d, x) = answered_ok _ _ _ (sym c.in_ok-r.was ∙ c.reduce.ensures.is) in
+    let A = accepted_in _ _ _ d in
+    let t = ap (λ y. y.table) x in
     (table_size _ _ _ A _ t, omega (arith, A.range.places), checks_few _ _ _ A _ t)
 
 pub returns : goal.returns
 returns c =
-    let a = c.args in
-    let R = c.reduce-r.ensures in
-    let d = c.in-Done.is in
-    let A = accepted_in a.n a.k a.rows.now (sym R.reduced.answer ∙ d) in
-    record {
-      reduced = rw d at R.reduced;
-      checks = parity-checks a.n a.k a.rows.now (every_row_of _ _ R.reduced.answer R.reduced.every_row) _ (sym d ∙ R.reduced.answer)
-          (c.check_rows-checks.ensures ∙ ap (padded max_checks) (checks_are _ _ _ A _ (table_of R d)));
-      messages = rw d at R.messages;
-    }
+    let m = c.args.matrix.now in
+    let a = matrix_answer m.n m.k m.rows.now in
+    let (d, x) = answered_ok a _ _ (sym c.in_ok-r.was ∙ c.reduce.ensures.is) in
+    let A = accepted_in m.n m.k m.rows.now d in
+    let t = ap (λ y. y.table) x in
+    let e = c.check_rows.ensures ∙ ap (padded max_checks) (checks_are m.n m.k m.rows.now A _ t) in
+    let same : Ok (record { rows = c.in_ok-r.r.rows; checks = c.check_rows.result; messages = c.in_ok-r.r.messages })
+    ≡ Ok (record { rows = padded max_rows (reduced_rows m.n m.rows.now); checks = padded max_checks (checks m.n m.rows.now); messages = messages_by_pivot m.rows.now })
+    = ap₂ (λ (x : Reduction) (y : List ℕ). Ok (record { rows = x.rows; checks = y; messages = x.messages })) x e in
+    code_lem c.reduce.ensures _ (same ∙ ok_answered a _ d)
