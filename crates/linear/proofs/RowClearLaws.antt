@@ -1,4 +1,4 @@
--- Laws of the elimination's loops: over the rows, and over the places at which a row is cleared. Assumes nothing.
+-- Laws of the elimination's loops: over the rows, and over the places at which a row is cleared.
 use mathlib.Core.Path.{◌≡◌, refl, sym, ap, ◌∙◌}
 use mathlib.Core.Logic.{◌≢◌}
 use mathlib.Core.List.{List}

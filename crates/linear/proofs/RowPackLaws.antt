@@ -1,42 +1,44 @@
--- Laws of the loop that reads the rows off a table by place: those up to a place are packed in front of zeros.
--- Assumes nothing.
-use mathlib.Core.Path.{◌≡◌, ap}
-use mathlib.Core.Logic.{◌≢◌}
-use mathlib.Core.List.{List, []}
-use Prim.Native.Nat.{ℕ, ◌+◌, ◌≤◌, ◌<◌}
-use native.Mathlib.Omega.{arith}
-use lib.ListN.{length, get_or, drop, set, drop_of_length-le}
+-- Laws of the loop that lists the rows of a table by place: they are the entries but 0, and stand in front of zeros.
+use mathlib.Core.Path.{◌≡◌, refl, ap, ◌∙◌}
+use mathlib.Core.List.{List, [], ◌∷◌, ◌++◌}
+use mathlib.Core.Bool.{Bool, not}
+use Prim.Native.Nat.{ℕ, zero, suc, ◌<◌}
+use native.Mathlib.Nat.{zero-add}
+use lib.Dec.{eqb, eqb-suc-zero}
+use lib.ListN.{length, get_or}
+use Rattle.std.specs.List.{filter, enumerate_from}
+use Rattle.std.proofs.lemmas.List.{drop-replicate}
+use Rattle.std.proofs.lemmas.Grind.{get_or_default_zero}
+use Rattle.std.proofs.lemmas.List.FromFn.{length-enumerate_from, get_or-enumerate_from}
 use Rattle.coding.specs.Lists.{zeros, padded}
 use Rattle.coding.specs.Reduce.{rows_of}
-use Rattle.coding.proofs.LoopLaws.{Packed, packed_start, packed_room, packed_push, packed_end}
-use Rattle.coding.proofs.CompactLaws.{rows_free, rows_pivot}
-use Rattle.words.specs.Limits.{max_rows}
+use Rattle.coding.proofs.LoopLaws.{Over, over_end}
 
--- the rows of the places below q, j of them, stand in front of zeros
-pub record PackedRows (table : List ℕ) (q : ℕ) (rows : List ℕ) (j : ℕ) : Type 0 where
-  pub within : q ≤ length table
-  pub few : length (rows_of table) ≤ max_rows
-  pub packed : Packed max_rows rows j (rows_of (drop q table)) (rows_of table)
+abbrev pub is_row : ℕ → Bool
+is_row row = not (eqb row 0)
 
-pub pack_start : (table : List ℕ) → length (rows_of table) ≤ max_rows → PackedRows table 0 (zeros max_rows) 0
-pack_start table f = record { within = omega arith; few = f; packed = packed_start max_rows (rows_of table) }
+pub rows_kept : (table : List ℕ) → filter is_row table ≡ rows_of table
+rows_kept [] = refl
+rows_kept (zero ∷ table) = rows_kept table
+rows_kept (suc row ∷ table) = rw eqb-suc-zero (ap (λ (l : List ℕ). suc row ∷ l) (rows_kept table))
 
-module _ {table : List ℕ} {q : ℕ} {rows : List ℕ} {j : ℕ} (L : PackedRows table q rows j) where
-  module _ (h : q < length table) where
-    pub pack_room : get_or table q 0 ≢ 0 → j < max_rows
-    pack_room ne = packed_room max_rows rows j _ _ (rows_of table) (rw (rows_pivot table q h ne) at L.packed) L.few
+-- all are listed
+pub rows_all : (table : List ℕ) → length (enumerate_from 0 (filter is_row table)) ≡ length (rows_of table)
+rows_all table = length-enumerate_from 0 (filter is_row table) ∙ ap length (rows_kept table)
 
-    pub pack_push : get_or table q 0 ≢ 0 → PackedRows table (q + 1) (set rows j (get_or table q 0)) (j + 1)
-    pack_push ne = record {
-      within = omega arith;
-      few = L.few;
-      packed = packed_push max_rows rows j (get_or table q 0) _ (rows_of table) (rw (rows_pivot table q h ne) at L.packed) L.few;
-    }
+-- and stand in front of zeros
+pub rows_padded : (table : List ℕ) (m : ℕ) {i : ℕ} {rows : List ℕ} → Over (rows_of table) (zeros m) i rows → i ≡ length (rows_of table)
+    → rows ≡ padded m (rows_of table)
+rows_padded table m O e = over_end O e ∙ ap (λ (l : List ℕ). rows_of table ++ l) (drop-replicate _ m 0)
 
-    pub pack_skip : get_or table q 0 ≡ 0 → PackedRows table (q + 1) rows j
-    pack_skip e = record { within = omega arith; few = L.few; packed = rw (rows_free table q h e) at L.packed }
-
-  pub pack_end : length table ≤ q → rows ≡ padded max_rows (rows_of table)
-  pack_end h =
-      let e : rows_of (drop q table) ≡ [] = ap rows_of (drop_of_length-le table h) in
-      packed_end max_rows rows j (rows_of table) (rw e at L.packed) (omega (arith, L.packed.count, L.few))
+-- the next row comes with its index
+pub row_turn : (table : List ℕ) (i j row : ℕ)
+    → (i < length (enumerate_from 0 (filter is_row table))) × ((j, row) ≡ get_or (enumerate_from 0 (filter is_row table)) i (j, row))
+    → (i < length (rows_of table)) × (j ≡ i) × (row ≡ get_or (rows_of table) i 0)
+row_turn table i j row (h, e) =
+    let l : i < length (filter is_row table) = rw (length-enumerate_from 0 (filter is_row table)) at h in
+    let is = e ∙ get_or-enumerate_from 0 (filter is_row table) i (j, row) l in (
+      rw (rows_kept table) at l,
+      ap (λ (p : ℕ × ℕ). p.0) is ∙ zero-add i,
+      ap (λ (p : ℕ × ℕ). p.1) is ∙ get_or_default_zero (filter is_row table) i row l ∙ ap (λ (t : List ℕ). get_or t i 0) (rows_kept table),
+    )

@@ -27,10 +27,8 @@ fn put(rows: &[u32; WIDTH], entries: &mut [u32; WIDTH], q: usize, x: u32)
     requires { (q < width) × (length rows.now ≡ width) × (length entries.old ≡ width) }
     ensures { entries.new ≡ set (wipes q rows.now entries.old x) q x }
 {
-    let mut p: usize = 0;
-    while p < WIDTH {
-        entries[p] = entries[p] ^ selected(x, rows[p] >> q);
-        p += 1;
+    for (p, entry) in entries.iter_mut().enumerate() {
+        *entry ^= selected(x, rows[p] >> q);
     }
     entries[q] = x;
 }
@@ -44,31 +42,26 @@ pub(crate) fn eliminate(rows: &[u32]) -> Elimination
 {
     let mut table = [0u32; WIDTH];
     let mut messages = [0u32; WIDTH];
-    let mut i: usize = 0;
-    'rows: while i < rows.len() {
-        let mut x = rows[i];
+    let mut rank = 0;
+    'rows: for (i, &row) in rows.iter().enumerate() {
+        let mut x = row;
         let mut m = 1u32 << i;
-        let mut p: usize = 0;
-        loop {
+        for p in 0..WIDTH {
+            let digit = x >> p;
+            x ^= selected(table[p], digit);
+            m ^= selected(messages[p], digit);
             if x == 0 {
                 break 'rows;
             }
-            if p == WIDTH {
-                break;
-            }
-            let b = x >> p;
-            x = x ^ selected(table[p], b);
-            m = m ^ selected(messages[p], b);
-            p += 1;
         }
-        let q = u32::trailing_zeros(x) as usize;
+        let q = x.trailing_zeros() as usize;
         let before = table;
         put(&before, &mut table, q, x);
         put(&before, &mut messages, q, m);
-        i += 1;
+        rank = i + 1;
     }
     Elimination {
-        rank: i,
+        rank,
         table,
         messages,
     }
@@ -88,14 +81,8 @@ fn compact(table: &[u32]) -> [u32; MAX_ROWS]
     ensures { result ≡ padded max_rows (rows_of table.now) }
 {
     let mut rows = [0u32; MAX_ROWS];
-    let mut j: usize = 0;
-    let mut q: usize = 0;
-    while q < table.len() {
-        if table[q] != 0 {
-            rows[j] = table[q];
-            j += 1;
-        }
-        q += 1;
+    for (j, &row) in table.iter().filter(|row| **row != 0).enumerate() {
+        rows[j] = row;
     }
     rows
 }

@@ -1,11 +1,10 @@
--- `linear::reduction::compact`: the rows of the places below q are packed in front of zeros. Assumes nothing.
-use Rattle.std.proofs.Common.{length, ◌-◌}
-use Rattle.linear.proofs.RowPackLaws.{PackedRows}
+-- So many rows stand in front of zeros.
+use Rattle.std.proofs.Common.{length}
+use Rattle.coding.specs.Lists.{zeros}
+use Rattle.coding.specs.Reduce.{rows_of}
+use Rattle.coding.proofs.LoopLaws.{Over}
+use Rattle.words.specs.Limits.{max_rows}
 use Rattle.linear.proofs.reduction.compact.Given as goal
 
-abbrev pub invariant-loop-q : goal.invariant-loop-q
-invariant-loop-q l = PackedRows l.table l.q l.rows l.j
-
--- proposed from the loop's first test
-abbrev pub decreases-loop-q : goal.decreases-loop-q
-decreases-loop-q l = length l.table - l.q
+abbrev pub invariant-loop-j : goal.invariant-loop-j
+invariant-loop-j l = Over (rows_of l.table) (zeros max_rows) (length l.yielded) l.rows

@@ -1,5 +1,5 @@
 -- The first p entries are those of the wiped list.
-use Rattle.std.proofs.Common.{◌≡◌, sym, ap, ap₂, ◌∙◌, List, ℕ, length, set, slice_index_or, arith, rules}
+use Rattle.std.proofs.Common.{◌≡◌, sym, ap, ap₂, ◌∙◌, List, ℕ, length, set, slice_index_or, arith}
 use Rattle.coding.specs.Word.{◌⊕◌}
 use Rattle.coding.specs.Inner.Beside.{wipes}
 use Rattle.coding.proofs.LoopLaws.{over_step, over-full, over_next}
@@ -9,18 +9,16 @@ use Rattle.linear.proofs.reduction.put.Goals as goal
 pub loop-p-preserved : goal.loop-p-preserved
 loop-p-preserved c =
     let a = c.args in
-    let O = c.loop-p.invariant.1 in
+    let O = c.loop-p.invariant in
     let p = c.loop-p.p in
     -- the wiped list has an entry for each place
     let size : length (wipes a.q a.rows.now a.entries.now a.x) ≡ 32 = wipes-length a.q a.rows.now a.entries.now a.x (omega (arith, c.requires)) ∙ c.requires.1 in
-    let next = ap (λ (e : List ℕ). slice_index_or e p 0) O.list ∙ over_next _ a.entries.now p (omega (arith, O.long, c.requires, c.loop-p.invariant.0, c.loop-p-test.true)) in (
-      search rules,
-      over_step O _ (omega arith) (omega arith)
-          (ap₂ ◌⊕◌ next c.selected.ensures ∙ sym (wipes_at a.q a.rows.now a.entries.now a.x p (omega arith) (omega arith))),
-    )
+    let next = ap (λ (e : List ℕ). slice_index_or e p 0) O.list ∙ over_next _ a.entries.now p (omega (arith, O.long)) in
+    over_step O _ (omega (arith, O.long)) (omega (arith, O.long))
+    (ap₂ ◌⊕◌ next c.selected.ensures ∙ sym (wipes_at a.q a.rows.now a.entries.now a.x p (omega (arith, O.long)) (omega (arith, O.long))))
 
 pub returns : goal.returns
 returns c =
     let a = c.args in
     let size : length (wipes a.q a.rows.now a.entries.now a.x) ≡ 32 = wipes-length a.q a.rows.now a.entries.now a.x (omega (arith, c.requires)) ∙ c.requires.1 in
-    ap (λ (e : List ℕ). set e a.q a.x) (over-full c.loop-p.invariant.1 (omega arith) (omega arith))
+    ap (λ (e : List ℕ). set e a.q a.x) (over-full c.loop-p.invariant (omega arith) (omega arith))
