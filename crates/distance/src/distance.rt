@@ -6,10 +6,11 @@ ghost use Rattle.distance.specs.Distance.{DistanceOf};
 ghost use Rattle.distance.specs.Inner.LeastSum.{ReducedMatrix};
 
 use crate::search::least_sum;
-use answers::Answer;
+use answers::Refusal;
 use parity::code_of;
 use walk::{NO_WEIGHT, walk_all};
 use words::limits::MAX_CHECKS;
+use words::shape::Matrix;
 use words::word::weight;
 
 // With so few rows the walk over all codewords takes less than the sums of four rows and more.
@@ -37,33 +38,20 @@ fn least_weight(rows: &[u32]) -> u32
     best
 }
 
-// The answer to a matrix; where it is accepted, its check rows and its minimum distance, 0 everywhere else.
+// Of an accepted matrix its check rows and its minimum distance.
 #[derive(Drop)]
 pub struct Distance {
-    pub answer: Answer,
     pub checks: [u32; MAX_CHECKS],
     pub dmin: u32,
 }
 
 // One elimination and the search.
-pub fn distance_of(n: u32, k: u32, rows: &[u32]) -> Distance
-    ensures { DistanceOf n k rows.now result }
+pub fn distance_of(matrix: &Matrix) -> Result<Distance, Refusal>
+    ensures { DistanceOf matrix.now.n matrix.now.k matrix.now.rows.now result }
 {
-    let c = code_of(n, k, rows);
-    let answer = c.answer;
-    let Answer::Done = answer else {
-        return Distance {
-            answer,
-            checks: [0u32; MAX_CHECKS],
-            dmin: 0,
-        };
-    };
-    let reduced = c.rows;
-    let dmin = least_weight(&reduced[..k as usize]);
-    let checks = c.checks;
-    Distance {
-        answer: Answer::Done,
-        checks,
-        dmin,
-    }
+    let c = code_of(matrix)?;
+    Ok(Distance {
+        checks: c.checks,
+        dmin: least_weight(&c.rows[..matrix.k as usize]),
+    })
 }

@@ -1,54 +1,69 @@
 -- What the code gives, and the search over its reduced rows.
-use Rattle.std.proofs.Common.{◌≡◌, sym, ap, ◌∙◌, ℕ, List, length, take}
+use Rattle.std.proofs.Common.{◌≡◌, sym, ap, ap₂, ◌∙◌, ℕ, List, length, take}
 use Rattle.std.proofs.Math.Seq.{take_at}
+use Rattle.std.specs.Prelude.{Result, Ok}
 use Rattle.coding.specs.Lists.{padded}
+use Rattle.coding.specs.Check.{checks}
 use Rattle.coding.specs.Weight.{dmin}
 use Rattle.coding.specs.Reduce.{reduced_rows}
-use Rattle.words.specs.Limits.{max_rows}
-use Rattle.words.specs.Accepted.{Accepted}
+use Rattle.words.specs.Limits.{max_rows, max_checks}
+use Rattle.words.specs.Accepted.{matrix_answer, Accepted}
 use Rattle.words.proofs.AcceptedLaws.{accepted_in}
-use Rattle.words.proofs.CodeLaws.{distance_is}
+use Rattle.words.proofs.CodeLaws.{rows_are, distance_is}
+use Rattle.coding.proofs.EchelonLaws.{reduced_rows_form}
+use Rattle.answers.specs.Refusal.{answered, part}
+use Rattle.answers.specs.declared.answer.Refusal.{Refusal}
+use Rattle.answers.proofs.AnswerLaws.{handed_on, err_answered, answered_err, ok_answered, answered_ok, done_answered, part-answered}
 use Rattle.parity.specs.ParityChecks.{CodeOf}
-use Rattle.parity.proofs.CodeOfLaws.{checks_done}
 use Rattle.parity.specs.declared.check.Code.{Code}
-use Rattle.answers.specs.declared.answer.Answer.TheVariants.{Done}
+use Rattle.distance.specs.Distance.{DistanceOf}
+use Rattle.distance.specs.declared.distance.Distance.{Distance}
 use Rattle.distance.specs.Inner.LeastSum.{ReducedMatrix}
 use Rattle.distance.proofs.LeastSumLaws.{reduced_matrix, dmin_reduced}
 use Rattle.distance.proofs.distance.distance_of.Goals as goal
 
--- the matrix is accepted
-module _ (n k : ℕ) (rows : List ℕ) (r : Code) (C : CodeOf n k rows r) (done : r.answer ≡ Done) where
-  accepted : Accepted n k rows
-  accepted = accepted_in _ _ _ (sym C.reduced.answer ∙ done)
-
-  size : length (reduced_rows n rows) ≡ k
-  size = C.reduced.count done
-
-  -- the reduced rows stand in front of zeros
-  rows_are : r.rows ≡ padded max_rows (reduced_rows n rows)
-  rows_are = rw done at C.reduced.rows_are
-
-  first_are : take k r.rows ≡ reduced_rows n rows
-  first_are = ap (take k) rows_are ∙ take_at (reduced_rows n rows) _ k size
-
+-- the reduced rows of an accepted matrix, and the minimum distance by them
+module _ (n k : ℕ) (rows : List ℕ) (A : Accepted n k rows) where
   matrix : ReducedMatrix (reduced_rows n rows)
-  matrix = reduced_matrix _ _ _ accepted (reduced_rows n rows) _ (C.reduced.form done) size
+  matrix = reduced_matrix _ _ _ A (reduced_rows n rows) _ (reduced_rows_form n rows A.inside) (rows_are n k rows A)
 
   distance : dmin (reduced_rows n rows) ≡ dmin rows
-  distance = dmin_reduced _ _ _ accepted (reduced_rows n rows) _ (C.reduced.form done) size
+  distance = dmin_reduced _ _ _ A (reduced_rows n rows) _ (reduced_rows_form n rows A.inside) (rows_are n k rows A)
 
-pub least_weight-dmin-requires : goal.least_weight-dmin-requires
-least_weight-dmin-requires c =
-    let C = c.code_of-c.ensures in
-    let r = c.code_of-c.result in
-    rw (first_are _ _ _ r C c.in-Done.is) (matrix _ _ _ r C c.in-Done.is)
+  -- they stand in front of zeros
+  first_are : (l : List ℕ) → l ≡ padded max_rows (reduced_rows n rows) → take k l ≡ reduced_rows n rows
+  first_are l e = ap (take k) e ∙ take_at (reduced_rows n rows) _ k (rows_are n k rows A)
+
+-- what is answered for a matrix whose code is known
+promised : {n k : ℕ} {rows : List ℕ} {q : Result Code Refusal} → CodeOf n k rows q → (r : Result Distance Refusal)
+    → r ≡ answered (matrix_answer n k rows) (record { checks = padded max_checks (checks n rows); dmin = dmin rows }) → DistanceOf n k rows r
+promised {n} {k} {rows} {q} C r e =
+    let a = matrix_answer n k rows in
+    let same : part (λ (x : Code). x.checks) q ≡ part (λ (x : Distance). x.checks) r
+    = part-answered (λ (x : Code). x.checks) a _ q C.is ∙ sym (part-answered (λ (x : Distance). x.checks) a _ r e) in
+    record {
+      is = e;
+      checks = rw same at C.checks;
+      distance = λ d. distance_is n k rows (accepted_in n k rows (done_answered a _ r e d));
+    }
+
+pub returns-in_err-c : goal.returns-in_err-c
+returns-in_err-c c =
+    let e = answered_err _ _ _ (sym c.in_err-c.was ∙ c.code_of.ensures.is) in
+    promised c.code_of.ensures _ (handed_on _ _ c.from_residual.ensures ∙ err_answered _ _ _ e)
+
+pub least_weight-requires : goal.least_weight-requires
+least_weight-requires c =
+    let m = c.args.matrix.now in
+    let (d, x) = answered_ok (matrix_answer m.n m.k m.rows.now) _ _ (sym c.in_ok-c.was ∙ c.code_of.ensures.is) in
+    let A = accepted_in _ _ _ d in
+    rw (first_are _ _ _ A _ (ap (λ y. y.rows) x)) (matrix _ _ _ A)
 
 pub returns : goal.returns
 returns c =
-    let C = c.code_of-c.ensures in
-    let r = c.code_of-c.result in
-    record {
-      checks = checks_done C.checks c.in-Done.is;
-      dmin_is = c.least_weight-dmin.ensures ∙ ap dmin (first_are _ _ _ r C c.in-Done.is) ∙ distance _ _ _ r C c.in-Done.is;
-      distance = λ _. distance_is _ _ _ (accepted _ _ _ r C c.in-Done.is);
-    }
+    let m = c.args.matrix.now in
+    let (d, x) = answered_ok (matrix_answer m.n m.k m.rows.now) _ _ (sym c.in_ok-c.was ∙ c.code_of.ensures.is) in
+    let A = accepted_in _ _ _ d in
+    let e = c.least_weight.ensures ∙ ap dmin (first_are _ _ _ A _ (ap (λ y. y.rows) x)) ∙ distance _ _ _ A in
+    promised c.code_of.ensures _
+    (ap₂ (λ (y : List ℕ) (z : ℕ). Ok (record { checks = y; dmin = z })) (ap (λ y. y.checks) x) e ∙ ok_answered _ _ d)
