@@ -1,18 +1,25 @@
-// An answer as C receives it: a number, and a value through a reference.
+// How a call's result reaches C: a number, a value beside it through a reference, and what the call gives.
 ghost use Rattle.std.specs.Prelude.{◌≡◌};
+ghost use Rattle.std.specs.Result.{result_unwrap_or};
+ghost use Rattle.answers.specs.Refusal.{answer_of};
 ghost use Rattle.telling.specs.Told.{number_in, value_in};
 
-use answers::{Answer, number, value};
+use answers::Refusal;
 
-// Writes the value beside the number, and answers the number, 0 on success.
-pub fn tell(a: Answer, beside: &mut usize) -> u32
-    ensures number { result ≡ number_in a }
-    ensures value { beside.new ≡ value_in a }
+// Writes the value beside the number. Answers the number, 0 on success, and what is given: on a refusal `none` in its place.
+pub fn tell<T: Drop>(r: Result<T, Refusal>, none: T, beside: &mut usize) -> (u32, T)
+    ensures number { result.0 ≡ number_in (answer_of r) }
+    ensures value { beside.new ≡ value_in (answer_of r) }
+    ensures given { result.1 ≡ result_unwrap_or r none }
 {
-    let Answer::Refused(c) = a else {
-        *beside = 0;
-        return 0;
-    };
-    *beside = value(c);
-    number(c)
+    match r {
+        Ok(x) => {
+            *beside = 0;
+            (0, x)
+        }
+        Err(c) => {
+            *beside = c.value();
+            (c.number(), none)
+        }
+    }
 }
