@@ -1,4 +1,4 @@
--- Laws of the columns of check rows: the sum of the columns of a word's places is its syndrome. Assumes nothing.
+-- Laws of the columns of check rows: the sum of the columns of a word's places is its syndrome.
 use mathlib.Core.Path.{◌≡◌, refl, sym, ap, ap₂, ◌∙◌}
 use mathlib.Core.List.{List, [], ◌∷◌, ◌++◌, map, append-nil}
 use mathlib.Core.Bool.{Bool, cond}

@@ -1,5 +1,4 @@
 -- Laws of the loop that reads the check rows off a table by place: those up to a place are packed in front of zeros.
--- Assumes nothing.
 use mathlib.Core.Path.{◌≡◌, sym, ap, ap₂, ◌∙◌}
 use mathlib.Core.Logic.{◌≢◌}
 use mathlib.Core.List.{List, [], ◌∷◌, map}

@@ -1,4 +1,4 @@
--- What the code of an accepted matrix leaves known to a caller. Assumes nothing.
+-- What the code of an accepted matrix leaves known to a caller.
 use mathlib.Core.Path.{◌≡◌, subst, ap, ◌∙◌}
 use mathlib.Core.List.{List}
 use Prim.Native.Nat.{ℕ, ◌-◌}

@@ -1,5 +1,5 @@
 -- Laws of the check rows that are read off the table of an accepted matrix: they are those of the definitions in n places, and tell
--- the codewords. Assumes nothing.
+-- the codewords.
 use mathlib.Core.Path.{◌≡◌, sym, ap, ◌∙◌}
 use mathlib.Core.List.{List, map}
 use Prim.Native.Nat.{ℕ, ◌-◌, ◌^◌, ◌≤◌}

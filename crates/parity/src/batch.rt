@@ -7,7 +7,6 @@ ghost use Rattle.parity.specs.Syndromes.{SyndromesOf};
 ghost use Rattle.parity.specs.Inner.Joined.{joined_by};
 
 use words::limits::MAX_CHECKS;
-use words::lists::{fill, smaller};
 use words::word::parity;
 
 // Each list entry is moved up by one place, and the parity of its word by the check row is its place 0.
@@ -15,10 +14,8 @@ fn join_row(row: u32, words: &[u32], list: &mut [u32])
     requires { length words.now ≡ length list.old }
     ensures { list.new ≡ tabulate (joined_by row words.now list.old) (length list.old) }
 {
-    let mut v: usize = 0;
-    while v < list.len() {
-        list[v] = (list[v] << 1) ^ parity(words[v], row);
-        v += 1;
+    for (v, s) in list.iter_mut().enumerate() {
+        *s = (*s << 1) ^ parity(words[v], row);
     }
 }
 
@@ -27,27 +24,17 @@ fn join_rows(checks: &[u32], words: &[u32], list: &mut [u32])
     requires { (length checks.now ≤ width) × (length words.now ≡ length list.old) }
     ensures { list.new ≡ map (syndrome checks.now) words.now }
 {
-    fill(list, 0);
-    let mut j: usize = checks.len();
-    while 0 < j {
-        j -= 1;
-        join_row(checks[j], words, list);
+    list.fill(0);
+    for row in checks.iter().rev() {
+        join_row(*row, words, list);
     }
-}
-
-// The same by the first c check rows, as far as there are rows, words and slots.
-fn syndromes_by(checks: &[u32], c: usize, words: &[u32], out: &mut [u32])
-    requires { length checks.now ≤ width }
-    ensures { SyndromesOf (take c checks.now) words.now out.old out.new }
-{
-    let r = smaller(c, checks.len());
-    let m = smaller(words.len(), out.len());
-    join_rows(&checks[..r], &words[..m], &mut out[..m]);
 }
 
 // Slot i becomes the syndrome of word i by the first c check rows, as far as there are slots; the later ones keep their values.
 pub fn syndromes(checks: &[u32; MAX_CHECKS], c: usize, words: &[u32], out: &mut [u32])
     ensures { SyndromesOf (take c checks.now) words.now out.old out.new }
 {
-    syndromes_by(checks, c, words, out);
+    let r = c.min(MAX_CHECKS);
+    let m = words.len().min(out.len());
+    join_rows(&checks[..r], &words[..m], &mut out[..m]);
 }

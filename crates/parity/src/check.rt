@@ -1,8 +1,8 @@
 // Part 2: parity-check rows and syndromes.
-ghost use Rattle.std.specs.Prelude.{◌≡◌, map, ◌^◌, ◌≤◌, length, take};
+ghost use Rattle.std.specs.Prelude.{◌≡◌, map, ℕ, ◌^◌, ◌<◌, ◌≤◌, length, take};
 ghost use Rattle.coding.specs.Lists.{padded, tabulate};
 ghost use Rattle.coding.specs.Reduce.{frees_from};
-ghost use Rattle.coding.specs.Check.{column, check, syndrome};
+ghost use Rattle.coding.specs.Check.{column, check, places};
 ghost use Rattle.words.specs.Limits.{max_checks, width};
 ghost use Rattle.parity.specs.CheckColumns.{columns_of};
 ghost use Rattle.parity.specs.ParityChecks.{CodeOf, ParityChecksOf};
@@ -12,7 +12,6 @@ use crate::batch::syndromes;
 use answers::Answer;
 use linear::reduce;
 use words::limits::{MAX_CHECKS, MAX_ROWS, WIDTH};
-use words::lists::smaller;
 use words::word::{parity, place};
 
 // The answer to a matrix, and where it is accepted its n - k check rows; 0 at every other entry.
@@ -22,25 +21,20 @@ pub struct ParityChecks {
     pub rows: [u32; MAX_CHECKS],
 }
 
-// The parities of a word with the check rows, the first as the lowest place.
-fn parities(checks: &[u32], w: u32) -> u32
-    requires { length checks.now ≤ width }
-    ensures { result ≡ syndrome checks.now w }
+// The digits of the entries joined into a word, that of the first as the lowest place.
+fn joined<F: Fn(u32) -> u32>(list: &[u32], digit: F) -> u32
+    requires few { length list.now ≤ width }
+    requires callable { F.IsAlwaysCallable digit }
+    ensures { (d : ℕ → ℕ) → ((x y : ℕ) → F.post digit x y → y ≡ d x) → ((x : ℕ) → d x < 2) → result ≡ places d list.now }
 {
-    let mut s: u32 = 0;
-    let mut j: usize = checks.len();
-    while 0 < j {
-        j -= 1;
-        s = (s << 1) ^ parity(w, checks[j]);
-    }
-    s
+    list.iter().rev().fold(0, |word, x| (word << 1) ^ digit(*x))
 }
 
 // Bit j is the parity of the word's places where check row j has a 1; a row that is 0 has parity 0.
 pub fn syndrome(checks: &[u32; MAX_CHECKS], w: u32) -> u32
     ensures { SyndromeOf checks.now w result }
 {
-    parities(checks, w)
+    joined(checks, |h| parity(w, h))
 }
 
 // Place q of each row.
@@ -48,33 +42,21 @@ fn column(rows: &[u32], q: u32) -> u32
     requires { length rows.now ≤ width }
     ensures { result ≡ column rows.now q }
 {
-    let mut c: u32 = 0;
-    let mut p: usize = rows.len();
-    while 0 < p {
-        p -= 1;
-        c = (c << 1) ^ place(rows[p], q);
-    }
-    c
+    joined(rows, |r| place(r, q))
 }
 
 // Entry p is the word with a one at place p alone.
 fn single_places() -> [u32; WIDTH]
     ensures { result ≡ tabulate (λ p. 2 ^ p) width }
 {
-    let mut words = [0u32; WIDTH];
-    let mut p: usize = 0;
-    while p < WIDTH {
-        words[p] = 1u32 << p;
-        p += 1;
-    }
-    words
+    std::array::from_fn(|p| 1u32 << p)
 }
 
 // The columns of the first c check rows, of n places: entry p is the syndrome by these of the word with a one at place p alone.
 pub fn columns(checks: &[u32; MAX_CHECKS], n: usize, c: usize) -> [u32; WIDTH]
     ensures { result ≡ columns_of n (take c checks.now) }
 {
-    let end = smaller(n, WIDTH);
+    let end = n.min(WIDTH);
     let single = single_places();
     let mut columns = [0u32; WIDTH];
     syndromes(checks, c, &single, &mut columns[..end]);
@@ -88,13 +70,11 @@ fn check_rows(table: &[u32], n: usize) -> [u32; MAX_CHECKS]
 {
     let mut checks = [0u32; MAX_CHECKS];
     let mut j: usize = 0;
-    let mut q: usize = 0;
-    while q < n {
+    for q in 0..n {
         if table[q] == 0 {
             checks[j] = (1u32 << q) ^ column(table, q as u32);
             j += 1;
         }
-        q += 1;
     }
     checks
 }

@@ -1,13 +1,9 @@
--- `parity::batch::join_row`: the first v entries have their digit. Assumes nothing.
-use Rattle.std.proofs.Common.{length, ◌-◌, ◌≤◌}
+-- `parity::batch::join_row`: the first v entries have their digit.
+use Rattle.std.proofs.Common.{length}
 use Rattle.coding.specs.Lists.{tabulate}
 use Rattle.parity.specs.Inner.Joined.{joined_by}
 use Rattle.coding.proofs.LoopLaws.{Over}
 use Rattle.parity.proofs.batch.join_row.Given as goal
 
 abbrev pub invariant-loop-v : goal.invariant-loop-v
-invariant-loop-v l = (l.v ≤ length l.initial.list) × Over (tabulate (joined_by l.row l.words l.initial.list) (length l.initial.list)) l.initial.list l.v l.list
-
--- proposed from the loop's first test
-abbrev pub decreases-loop-v : goal.decreases-loop-v
-decreases-loop-v l = length l.initial.list - l.v
+invariant-loop-v l = Over (tabulate (joined_by l.row l.words l.initial.list) (length l.initial.list)) l.initial.list l.v l.list

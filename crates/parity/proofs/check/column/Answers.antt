@@ -1,7 +1,8 @@
--- c holds place q of the rows from p on.
+-- The joined places.
+use Rattle.std.proofs.Common.{rules}
+use Rattle.coding.specs.Word.{bit}
 use Rattle.coding.proofs.WordLaws.{bit-lt}
-use Rattle.coding.proofs.JoinedLaws.{joined_step}
 use Rattle.parity.proofs.check.column.Goals as goal
 
-pub loop-p-preserved : goal.loop-p-preserved
-loop-p-preserved c = joined_step c.loop-p.invariant c.loop-p-test.true (λ r. bit-lt r _) c.place.ensures
+pub returns : goal.returns
+returns c = c.joined.ensures (λ r. bit r c.args.q) (λ x y p. search rules) (λ r. bit-lt r c.args.q)

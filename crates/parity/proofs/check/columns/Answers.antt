@@ -5,5 +5,5 @@ use Rattle.parity.proofs.check.columns.Goals as goal
 
 pub returns : goal.returns
 returns c =
-    columns_singles c.args.n (take c.args.c c.args.checks.now) c.smaller-end.result c.single_places-single.result c.syndromes.new.out
-    c.smaller-end.ensures c.single_places-single.ensures c.syndromes.ensures.slots
+    columns_singles c.args.n (take c.args.c c.args.checks.now) c.min-end.result c.single_places-single.result c.syndromes.new.out
+    c.min-end.ensures c.single_places-single.ensures c.syndromes.ensures.slots
