@@ -1,39 +1,36 @@
--- Laws of the search by rising number of rows: row by row, then number by number, until no sum of more rows can be lighter. Assumes
--- nothing.
-use mathlib.Core.Path.{◌≡◌, refl, sym, ap, ◌∙◌}
+-- Laws of the search by rising number of rows: row by row, then number by number, until no sum of more rows can be lighter.
+use mathlib.Core.Path.{◌≡◌, refl, sym, ap, subst, ◌∙◌}
 use mathlib.Core.Logic.{◌≢◌, ◌⊎◌, inl, inr}
 use mathlib.Core.List.{List}
 use mathlib.Core.Bool.{Bool, true, false, cond}
 use Prim.Native.Nat.{ℕ, zero, suc, ◌+◌, ◌-◌, ◌^◌, ◌≤◌, ◌<◌, min}
 use native.Mathlib.Decide.{dec_le}
-use native.Mathlib.Nat.{pow-suc, lt_of_lt_of_le}
+use native.Mathlib.Nat.{pow-suc, le_refl, lt_of_lt_of_le}
 use native.Mathlib.Numerals.{add-one}
 use native.Mathlib.Omega.{arith}
 use lib.Dec.{eqb}
-use lib.ListN.{length, get_or}
+use lib.ListN.{length, get_or, take}
+use lib.Seq.{take-length, length-take-le}
 use lib.Pow.{pow-lt, pow_mono}
 use lib.Bits.{xor_comm, xor_zero_r}
 use lib.Count.{ones-le}
 use borrow.Author.Tests.{eq-eqb, eqb-true}
+use Rattle.std.specs.List.{fold}
+use Rattle.std.proofs.lemmas.List.Sums.{fold_more}
 use Rattle.coding.specs.Word.{◌⊕◌, weight}
 use Rattle.coding.specs.Matrix.{encode, Inside}
 use Rattle.coding.specs.Reduced.{ReducedForm}
 use Rattle.coding.specs.Weight.{dmin}
 use Rattle.coding.proofs.WordLaws.{xor_assoc}
 use Rattle.coding.proofs.WeightLaws.{weight-zero, weight_none, weight-pow}
-use Rattle.coding.proofs.MatrixLaws.{encode-zero, codeword-lt, encode_top, row_message, row_codeword}
+use Rattle.coding.proofs.MatrixLaws.{encode-zero, encode-take, codeword-lt, encode_top, row_message, row_codeword}
 use Rattle.coding.proofs.OrderLaws.{weight_top}
 use Rattle.coding.proofs.DistanceLaws.{dmin-le, dmin_hit}
 use Rattle.coding.proofs.PivotWeightLaws.{rows_weigh, echelon-independent, dmin_same}
 use Rattle.words.specs.Accepted.{Accepted}
 use Rattle.words.proofs.CodeLaws.{distance_is}
-use Rattle.distance.specs.Inner.LeastSum.{LeastSum, of_weight, sought_by, ReducedMatrix}
+use Rattle.distance.specs.Inner.LeastSum.{LeastSum, of_weight, ReducedMatrix}
 use Rattle.distance.specs.SmallestSum.{FewWeigh, SmallestSum}
-
--- of a weight that is not 0 the smallest word is sought
-pub sought-word : (w : ℕ) → w ≢ 0 → of_weight w ≡ sought_by w
-sought-word zero ne = absurd (ne refl)
-sought-word (suc w) ne = refl
 
 -- a one at place p, above those of v, adds row p
 row_added : (rows : List ℕ) (p v base : ℕ) → v < 2 ^ p → encode rows (2 ^ p + v) ⊕ base ≡ encode rows v ⊕ (base ⊕ get_or rows p 0)
@@ -120,6 +117,39 @@ least_row_next f rows p base best least r h L e =
       one = met L.one (dec_le least (f (get_or rows p 0 ⊕ base)));
     }
 
+-- each row in turn
+pub least_rows : (f : ℕ → ℕ) (rows : List ℕ) (base best : ℕ)
+    → LeastSum f rows (length rows) 1 base best (fold (λ least row. min least (f (row ⊕ base))) best rows)
+least_rows f rows base best =
+    subst (λ (l : List ℕ). LeastSum f rows (length rows) 1 base best (fold lesser best l)) (take-length rows) (go (length rows) (le_refl (length rows)))
+  where
+    lesser : ℕ → ℕ → ℕ
+    lesser least row = min least (f (row ⊕ base))
+
+    go : (p : ℕ) → p ≤ length rows → LeastSum f rows p 1 base best (fold lesser best (take p rows))
+    go zero h = least_row_start f rows base best
+    go (suc p) h =
+        subst (λ (q : ℕ). LeastSum f rows q 1 base best (fold lesser best (take q rows))) (add-one p)
+        (least_row_next f rows p base best (fold lesser best (take p rows)) (fold lesser best (take (p + 1) rows)) h (go p (omega arith))
+        (fold_more lesser best rows p 0 h))
+
+-- the sums of the first p rows
+pub least_first : (f : ℕ → ℕ) (rows : List ℕ) (p t base best r : ℕ) → p ≤ length rows → LeastSum f (take p rows) (length (take p rows)) t base best r
+    → LeastSum f rows p t base best r
+least_first f rows p t base best r h L = same (subst (λ (m : ℕ). LeastSum f (take p rows) m t base best r) (length-take-le p rows h) L)
+  where
+    same : LeastSum f (take p rows) p t base best r → LeastSum f rows p t base best r
+    same S = record {
+      upper = S.upper;
+      each = λ u l w. rw (encode-take rows p u l) at (S.each u l w);
+      one = met S.one;
+    }
+      where
+        met : (r ≡ best) ⊎ ((u : ℕ) × (u < 2 ^ p) × (weight u ≡ t) × (r ≡ f (encode (take p rows) u ⊕ base)))
+            → (r ≡ best) ⊎ ((u : ℕ) × (u < 2 ^ p) × (weight u ≡ t) × (r ≡ f (encode rows u ⊕ base)))
+        met (inl e) = inl e
+        met (inr (u, l, w, e)) = inr (u, l, w, e ∙ ap (λ (x : ℕ). f (x ⊕ base)) (encode-take rows p u l))
+
 -- ---- number by number: of the values at sums of fewer than t rows best is the least, and none where no sum has been met
 
 pub record Found (f : ℕ → ℕ) (none : ℕ) (rows : List ℕ) (t best : ℕ) : Type 0 where
@@ -173,18 +203,15 @@ found_end rows t best M F stop = ends F.one
 
 -- all sums of at most w rows have been looked at: best is the smallest of those that weigh w
 pub smallest_end : (rows : List ℕ) (w t best : ℕ) → t ≤ w + 1 → best ≤ 2 ^ 32 - 1 → Found (of_weight w) (2 ^ 32 - 1) rows t best
-    → (length rows < t) ⊎ (w < t) → SmallestSum rows w best
-smallest_end rows w t best upto small F stop = record { upper = small; each = λ u S. lower u S stop; one = met F.one }
+    → min (length rows) w < t → SmallestSum rows w best
+smallest_end rows w t best upto small F stop = record { upper = small; each = lower; one = met F.one }
   where
-    lower : (u : ℕ) → FewWeigh rows w u → (length rows < t) ⊎ (w < t) → best ≤ encode rows u
-    lower u S stop =
+    lower : (u : ℕ) → FewWeigh rows w u → best ≤ encode rows u
+    lower u S =
         let is : of_weight w (encode rows u) ≡ encode rows u
         = ap (λ (b : Bool). cond b (encode rows u) (2 ^ 32 - 1)) (eq-eqb (weight (encode rows u)) w S.weighs) in
-        omega (arith, F.least u S.message S.some (before stop), is)
-      where
-        before : (length rows < t) ⊎ (w < t) → weight u < t
-        before (inl s) = omega (arith, ones-le (length rows) u S.message)
-        before (inr s) = omega (arith, S.few)
+        let few : weight u < t = omega (arith, stop, ones-le (length rows) u S.message, S.few) in
+        omega (arith, F.least u S.message S.some few, is)
 
     met : (best ≡ 2 ^ 32 - 1) ⊎ ((u : ℕ) × (u < 2 ^ length rows) × (u ≢ 0) × (weight u < t) × (best ≡ of_weight w (encode rows u)))
         → (best ≡ 2 ^ 32 - 1) ⊎ ((u : ℕ) × FewWeigh rows w u × (best ≡ encode rows u))
@@ -199,14 +226,6 @@ smallest_end rows w t best upto small F stop = record { upper = small; each = λ
               e ∙ ap (λ (b : Bool). cond b (encode rows u) (2 ^ 32 - 1)) q,
             )
         go false q = inl (e ∙ ap (λ (b : Bool). cond b (encode rows u) (2 ^ 32 - 1)) q)
-
--- no sum of rows is looked at for the weight 0
-pub smallest_none : (rows : List ℕ) (w : ℕ) → w ≡ 0 → SmallestSum rows w (2 ^ 32 - 1)
-smallest_none rows w z = record {
-  upper = omega arith;
-  each = λ u S. absurd (S.some (weight_none u (omega (arith, S.few))));
-  one = inl refl;
-}
 
 -- of reduced rows every sum that weighs w is one of at most w rows
 pub reduced_few : (rows : List ℕ) (w u : ℕ) → ReducedMatrix rows → 1 ≤ w → u < 2 ^ length rows → weight (encode rows u) ≡ w → FewWeigh rows w u

@@ -10,6 +10,7 @@ use answers::Answer;
 use parity::code_of;
 use walk::{NO_WEIGHT, walk_all};
 use words::limits::MAX_CHECKS;
+use words::word::weight;
 
 // With so few rows the walk over all codewords takes less than the sums of four rows and more.
 const WALKED_ROWS: usize = 12;
@@ -21,15 +22,17 @@ fn least_weight(rows: &[u32]) -> u32
     requires { ReducedMatrix rows.now }
     ensures { result ≡ dmin rows.now }
 {
+    let lighter = |least: u32, word: u32| least.min(weight(word));
     let mut best = NO_WEIGHT;
-    let mut t: usize = 1;
-    while t <= rows.len() && t < best as usize {
+    for t in 1..=rows.len() {
+        if best as usize <= t {
+            return best;
+        }
         if SUMMED_ROWS < t && rows.len() <= WALKED_ROWS {
             let w = walk_all(rows);
             return w.least;
         }
-        best = least_sum(rows, rows.len(), t, 0, 0, best);
-        t += 1;
+        best = least_sum(rows, t, 0, &lighter, best);
     }
     best
 }

@@ -1,5 +1,5 @@
 -- The search for the minimum distance, and for the smallest codeword of a weight, by rising number of rows.
-use Rattle.std.specs.Prelude.{◌≡◌, ◌⊎◌, List, cond, ℕ, zero, suc, ◌-◌, ◌^◌, ◌≤◌, ◌<◌, eqb}
+use Rattle.std.specs.Prelude.{◌≡◌, ◌⊎◌, List, cond, ℕ, ◌-◌, ◌^◌, ◌≤◌, ◌<◌, eqb}
 use Rattle.coding.specs.Word.{◌⊕◌, weight}
 use Rattle.coding.specs.Matrix.{encode}
 use Rattle.coding.specs.Reduced.{Echelon}
@@ -14,11 +14,6 @@ pub record LeastSum (f : ℕ → ℕ) (rows : List ℕ) (m t base best r : ℕ) 
 -- the word where it weighs w, and 2^32 - 1 where it does not
 abbrev pub of_weight : ℕ → ℕ → ℕ
 of_weight w x = cond (eqb (weight x) w) x (2 ^ 32 - 1)
-
--- what is looked for: where w is 0 the least weight, else the smallest word that weighs w
-abbrev pub sought_by : ℕ → ℕ → ℕ
-sought_by zero x = weight x
-sought_by (suc w) x = of_weight (suc w) x
 
 -- the rows of an accepted matrix in reduced row echelon form
 pub record ReducedMatrix (rows : List ℕ) : Type 0 where

@@ -1,17 +1,28 @@
--- Of a weight that is not 0 the smallest word is sought, among all sums of at most so many rows.
-use Rattle.std.proofs.Common.{sym, subst, ℕ, ◌-◌, ◌^◌, arith, inl}
-use Rattle.distance.proofs.LeastSumLaws.{sought-word, Found, found_start, smallest_end, smallest_none}
+-- All sums of at most w rows are looked at, and there are none of more than all rows.
+use Rattle.std.proofs.Common.{◌+◌, rules, arith}
+use Rattle.distance.specs.Inner.LeastSum.{of_weight}
+use Rattle.distance.proofs.LeastSumLaws.{found_start, found_next, smallest_end}
 use Rattle.distance.proofs.smallest.smallest_weighing.Goals as goal
 
-pub returns-then-w-eq0 : goal.returns-then-w-eq0
-returns-then-w-eq0 c = smallest_none _ _ c.if-w-eq0.true
-
 pub loop-t-init : goal.loop-t-init
-loop-t-init c = (omega arith, omega arith, omega arith, found_start _ _ _)
+loop-t-init c = (omega arith, omega arith, found_start _ _ _)
 
-pub returns-after-loop-t : goal.returns-after-loop-t
-returns-after-loop-t c =
-    let found = subst (λ (f : ℕ → ℕ). Found f (2 ^ 32 - 1) c.args.rows.now c.loop-t.t c.loop-t.best)
-    (sym (sought-word c.args.w c.if-w-eq0.false)) c.loop-t.invariant.3 in
-    smallest_end c.args.rows.now c.args.w c.loop-t.t c.loop-t.best c.loop-t.invariant.1 c.loop-t.invariant.2 found
-    (inl (omega (arith, c.loop-t-test.false)))
+pub loop-t-preserved : goal.loop-t-preserved
+loop-t-preserved c =
+    let L = c.least_sum-best.ensures (of_weight c.args.w) (λ b x y p. search rules) in (
+      omega (arith, c.loop-t-test.true),
+      omega (arith, L.upper, c.loop-t.invariant.1),
+      found_next _ _ _ _ _ _ (omega (arith, c.loop-t.auto.t)) c.loop-t.invariant.2 L,
+    )
+
+pub returns : goal.returns
+returns c =
+    let (near, small, found) = c.loop-t.invariant in
+    smallest_end _ c.args.w c.loop-t.t _ (omega (arith, near, c.min-t-end.ensures)) small found (omega (arith, c.loop-t-test.false, c.min-t-end.ensures))
+
+pub returns-2 : goal.returns-2
+returns-2 c =
+    let L = c.least_sum-best.ensures (of_weight c.args.w) (λ b x y p. search rules) in
+    let (near, small, found) = c.loop-t.invariant in
+    smallest_end _ c.args.w (c.loop-t.t + 1) _ (omega (arith, c.loop-t-test.true, c.min-t-end.ensures)) (omega (arith, L.upper, small))
+    (found_next _ _ _ _ _ _ (omega (arith, c.loop-t.auto.t)) found L) (omega (arith, c.min-t-end.ensures))
