@@ -74,10 +74,8 @@ fn look_up(leaders: &[u32], list: &mut [u32])
     requires { (i : ℕ) → i < length list.old → get_or list.old i 0 < length leaders.now }
     ensures { list.new ≡ map (λ s. get_or leaders.now s 0) list.old }
 {
-    let mut j: usize = 0;
-    while j < list.len() {
-        list[j] = leaders[list[j] as usize];
-        j += 1;
+    for x in list.iter_mut() {
+        *x = leaders[*x as usize];
     }
 }
 
@@ -87,13 +85,10 @@ fn correct(reading: Reading, words: &[u32], out: &mut [u32], counts: &mut [u8])
     ensures codewords { out.new ≡ words_with reading words.now out.old }
     ensures counts { counts.new ≡ counts_with reading words.now out.old }
 {
-    let mut i: usize = 0;
-    while i < words.len() {
-        let w = words[i];
+    for (i, &w) in words.iter().enumerate() {
         let o = outcome_of(reading, w, out[i]);
         out[i] = o.word(w);
         counts[i] = o.count();
-        i += 1;
     }
 }
 

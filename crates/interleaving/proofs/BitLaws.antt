@@ -1,15 +1,16 @@
--- Laws of the causes 16 and 17: what each test decides, what is known when they pass, and the bytes joined into one. Assumes nothing.
+-- Laws of the causes 16 and 17: what each test decides, what is known when they pass, and the bytes joined into one.
 use mathlib.Core.Path.{◌≡◌, refl, sym}
 use mathlib.Core.Logic.{◌≢◌}
-use mathlib.Core.List.{List}
+use mathlib.Core.List.{List, [], ◌∷◌}
 use mathlib.Core.Bool.{Bool, true, false}
-use Prim.Native.Nat.{ℕ, ◌*◌, ◌≤◌, ◌<◌}
+use Prim.Native.Nat.{ℕ, zero, suc, ◌+◌, ◌*◌, ◌≤◌, ◌<◌}
 use native.Mathlib.Omega.{arith}
 use lib.Dec.{eqb, leb, ltb}
+use lib.Bits.{bit_and, bit_or, or_lt, or_add_and, and_le_l, and_le_r}
 use lib.ListN.{length}
+use Rattle.std.specs.List.{fold}
 use borrow.Author.Tests.{leb-true, le-leb, lt-leb, eqb-true, eq-eqb, ne_eqb, ltb-true, ltb-false}
 use Rattle.coding.specs.Matrix.{Inside}
-use Rattle.coding.proofs.LoopLaws.{Gathered, gathered-each, gathered_joint}
 use Rattle.words.specs.Limits.{max_depth}
 use Rattle.answers.specs.Refusal.{unless, Between}
 use Rattle.words.specs.Shape.{first_outside}
@@ -82,13 +83,31 @@ module _ (n L : ℕ) (bits : List ℕ) where
       and_then-numbered (Between 16 17) (length_answer n L (length bits)) _ (length-numbered n L (length bits))
       (unless-numbered (Between 16 17) (only_bits bits) NoBits Done (omega arith, omega arith) tt)
 
--- ---- the bytes joined
+-- ---- the bytes joined: the joint is below 2 exactly when each byte is
 
-pub bits_test : (bits : List ℕ) (b all : ℕ) → Gathered 1 bits b all → length bits ≤ b → ltb all 2 ≡ only_bits bits
-bits_test bits b all G h = go (ltb all 2) refl
+abbrev joint : ℕ → List ℕ → ℕ
+joint a l = fold (λ (x y : ℕ). bit_or x y) a l
+
+joint-up : (l : List ℕ) (a : ℕ) → a < 2 → Inside 1 l → joint a l < 2
+joint-up [] a h f = h
+joint-up (x ∷ l) a h f = joint-up l (bit_or a x) (or_lt 1 a x h (f 0 (omega arith))) (λ j k. f (suc j) (omega (arith, k)))
+
+joint-down : (l : List ℕ) (a : ℕ) → joint a l < 2 → (a < 2) × Inside 1 l
+joint-down [] a h = (h, λ j k. absurd (omega (arith, k)))
+joint-down (x ∷ l) a h =
+    let (first, later) = joint-down l (bit_or a x) h in
+    let e : bit_or a x + bit_and a x ≡ a + x = or_add_and a x in
+    (omega (arith, e, first, and_le_r a x), each (omega (arith, e, first, and_le_l a x)) later)
   where
-    go : (t : Bool) → ltb all 2 ≡ t → t ≡ only_bits bits
-    go true e = sym (eq-eqb (first_outside 1 bits) (length bits) (inside_none 1 bits (gathered-each G h (ltb-true all 2 e))))
+    each : x < 2 → Inside 1 l → Inside 1 (x ∷ l)
+    each h f zero k = h
+    each h f (suc j) k = f j (omega (arith, k))
+
+pub bits_test : (bits : List ℕ) → ltb (joint 0 bits) 2 ≡ only_bits bits
+bits_test bits = go (ltb (joint 0 bits) 2) refl
+  where
+    go : (t : Bool) → ltb (joint 0 bits) 2 ≡ t → t ≡ only_bits bits
+    go true e = sym (eq-eqb (first_outside 1 bits) (length bits) (inside_none 1 bits (joint-down bits 0 (ltb-true (joint 0 bits) 2 e)).1))
     go false e =
         sym (ne_eqb (first_outside 1 bits) (length bits)
-        (λ z. absurd (omega (arith, ltb-false all 2 e, gathered_joint G (outside_none 1 bits z)))))
+        (λ z. absurd (omega (arith, ltb-false (joint 0 bits) 2 e, joint-up bits 0 (omega arith) (outside_none 1 bits z)))))

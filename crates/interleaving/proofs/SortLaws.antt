@@ -1,4 +1,4 @@
--- Laws of the loop that sorts back one word, from its highest place to its lowest. Assumes nothing.
+-- Laws of the loop that sorts back one word, from its highest place to its lowest.
 use mathlib.Core.Path.{◌≡◌, refl, sym, ap, subst, ◌∙◌}
 use mathlib.Core.List.{List}
 use Prim.Native.Nat.{ℕ, zero, suc, ◌+◌, ◌-◌, ◌*◌, ◌%◌, ◌^◌, ◌≤◌, ◌<◌}

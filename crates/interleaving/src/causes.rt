@@ -25,13 +25,7 @@ pub(crate) fn length_cause(n: u32, depth: usize, length: usize) -> Answer
 fn only_bits(bits: &[u8]) -> bool
     ensures { result ≡ only_bits bits.now }
 {
-    let mut all: u8 = 0;
-    let mut b: usize = 0;
-    while b < bits.len() {
-        all = all | bits[b];
-        b += 1;
-    }
-    all < 2
+    bits.iter().fold(0, |all, b| all | b) < 2
 }
 
 // Causes 16 and 17 of received bits.

@@ -12,30 +12,24 @@ use linear::accept;
 use words::lists::inside_cause;
 
 // Writes the places of word i, lowest first, as the bits i, L + i, 2 L + i and so on.
-fn send_word(words: &[u32], i: usize, bits: &mut [u8])
-    requires i_in_bounds { (i < length words.now) × (length bits.old ≤ length words.now * width) }
+fn send_word(n: u32, words: &[u32], i: usize, bits: &mut [u8])
+    requires i_in_bounds { (i < length words.now) × (length bits.old ≡ length words.now * n) × (n ≤ width) }
     requires sent { Sent words.now (length bits.old) i i bits.old }
     ensures { Sent words.now (length bits.old) (i + 1) (i + 1) bits.new }
 {
     let word = words[i];
-    let mut j: u32 = 0;
-    let mut b = i;
-    while b < bits.len() {
-        bits[b] = ((word >> j) & 1) as u8;
-        j += 1;
-        b += words.len();
+    for j in 0..n {
+        bits[words.len() * j as usize + i] = ((word >> j) & 1) as u8;
     }
 }
 
 // Writes every bit.
-fn send_words(words: &[u32], bits: &mut [u8])
-    requires { (0 < length words.now) × (length bits.old ≤ length words.now * width) }
+fn send_words(n: u32, words: &[u32], bits: &mut [u8])
+    requires { (0 < length words.now) × (length bits.old ≡ length words.now * n) × (n ≤ width) }
     ensures { bits.new ≡ tabulate (sent_bit words.now) (length bits.old) }
 {
-    let mut i: usize = 0;
-    while i < words.len() {
-        send_word(words, i, bits);
-        i += 1;
+    for i in 0..words.len() {
+        send_word(n, words, i, bits);
     }
 }
 
@@ -55,6 +49,6 @@ pub fn interleave(n: u32, k: u32, rows: &[u32], words: &[u32], bits: &mut [u8]) 
     let Answer::Done = c else {
         return c;
     };
-    send_words(words, bits);
+    send_words(n, words, bits);
     Answer::Done
 }

@@ -18,7 +18,8 @@ fn with_lowest(w: u32, bit: u8) -> u32
     (w << 1) ^ bit as u32
 }
 
-// Word i, its places read from the highest to the lowest, two a turn.
+// Word i, its places read from the highest to the lowest, two a turn. A `for` over the places, or over pairs of
+// them, takes more than the 8 instructions a bit that docs/BENCHMARKS.md allows where n is 7.
 fn sorted_word(bits: &[u8], depth: usize, n: u32, i: usize) -> u32
     requires { (length bits.now ≡ depth * n) × Inside 1 bits.now × (n ≤ width) × (i < depth) × (depth ≤ max_depth) }
     ensures { result ≡ sorted_word n depth bits.now i }
@@ -41,10 +42,8 @@ pub(crate) fn sort_words(bits: &[u8], depth: usize, n: u32, out: &mut [u32])
     requires { (length bits.now ≡ depth * n) × Inside 1 bits.now × (n ≤ width) × (depth ≤ length out.old) × (depth ≤ max_depth) }
     ensures { out.new ≡ sorted_words n depth bits.now ++ drop depth out.old }
 {
-    let mut i: usize = 0;
-    while i < depth {
-        out[i] = sorted_word(bits, depth, n, i);
-        i += 1;
+    for (i, word) in out[..depth].iter_mut().enumerate() {
+        *word = sorted_word(bits, depth, n, i);
     }
 }
 

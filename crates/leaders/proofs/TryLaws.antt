@@ -1,6 +1,6 @@
 -- Laws of the build, step by step: what is known of the next word, and how the recursion goes on. Assumes nothing.
 use mathlib.Core.Path.{◌≡◌, refl, sym, ap, ap₂, ◌∙◌}
-use mathlib.Core.Logic.{◌≢◌, ◌⊎◌, inl, inr, ⊎_elim}
+use mathlib.Core.Logic.{◌≢◌, ◌⊎◌, inl, inr}
 use mathlib.Core.List.{List, [], ◌∷◌, map}
 use Prim.Native.Nat.{ℕ, zero, suc, ◌+◌, ◌-◌, ◌*◌, ◌%◌, ◌^◌, ◌≤◌, ◌<◌}
 use native.Mathlib.Nat.{pow-suc, add-mul, mul_assoc, one-mul, add-zero, zero-add, suc-add, zero-mul, le_of_lt}
@@ -22,7 +22,8 @@ use Rattle.coding.proofs.MatrixLaws.{encode-xor, encode-zero, row_message}
 use Rattle.coding.proofs.BuildLaws.{light_word, fill_blank, fill_held, fills-length, fills_done, fills-append, words_few, words_step, blank_set, blank_all}
 use Rattle.coding.proofs.OrderedLaws.{words_count, order-count, order_fewer}
 use Rattle.coding.proofs.TriesLaws.{tried_done, tried_next, tried-append, tried-le}
-use Rattle.leaders.specs.Inner.Built.{Trying, Tried, TriedUnits}
+use Rattle.leaders.specs.declared.build.Filling.{Filling}
+use Rattle.leaders.specs.Inner.Built.{Trying, Tried, TryingIn, TriedIn}
 
 -- ---- what is tried, and what holds afterwards
 
@@ -237,7 +238,7 @@ module _ {list₀ cols : List ℕ} {m prefix s blank : ℕ} {list : List ℕ} {l
             count = sym once;
           })
 
-    unit_held : get_or list (s ⊕ get_or cols p 0) 0 ≢ no_leader → Tried list cols p 0 (prefix + one_at p) list left 1
+    pub unit_held : get_or list (s ⊕ get_or cols p 0) 0 ≢ no_leader → Tried list cols p 0 (prefix + one_at p) list left 1
     unit_held ne = rw (one_at_lem U.trying h) (record {
       filled = sym (ap (fill (encode cols) list) (add-zero (prefix + 2 ^ p))
           ∙ fill_held (encode cols) list (prefix + 2 ^ p) (λ q. ne (ap (λ (x : ℕ). get_or list x 0) (place-syndrome U.trying h) ∙ q)));
@@ -245,19 +246,52 @@ module _ {list₀ cols : List ℕ} {m prefix s blank : ℕ} {list : List ℕ} {l
       count = sym once;
     })
 
-    pub unit_passed : get_or list (s ⊕ get_or cols p 0) 0 ≢ no_leader → Rising list₀ cols m 1 prefix s blank list left (p + 1) (p + 1)
-    unit_passed ne = rising_next U h (unit_held ne) U.more
+-- ---- the same of the list that is being filled, which keeps its columns and the list that it was lent
 
-  -- the word at place p has filled the last blank entry; or all have been tried, and entries are blank
-  pub units-full : {after : List ℕ} {end : ℕ} → p < m → Tried list cols p 0 (prefix + one_at p) after end 1 → end ≡ 0
-      → TriedUnits list₀ cols m prefix after end p
-  units-full h S z = record { ended = λ _. (rising-full U h S z, z); left = λ l. absurd (omega arith) }
+pub record Growing (before : Filling) (m t prefix s : ℕ) (b : Filling) (r p : ℕ) : Type 0 where
+  pub rising : Rising before.list.now b.cols m t prefix s before.blank b.list.now b.blank r p
+  pub columns : b.cols ≡ before.cols
+  pub lent : b.list.ghost_name ≡ before.list.ghost_name
 
-  pub units_end : m ≤ p → TriedUnits list₀ cols m prefix list left m
-  units_end h = record { ended = λ l. absurd (omega arith); left = λ _. (rw e at (rising_end U h), U.more) }
-    where
-      e : p ≡ m
-      e = ⊎_elim (λ l. omega arith) (λ l. omega arith) U.upto
+pub growing_start : {b : Filling} {m t prefix s : ℕ} → TryingIn b m t prefix s → Growing b m t prefix s b 0 (t - 1)
+growing_start T = record { rising = rising_start T; columns = refl; lent = refl }
+
+by_columns : {before cols cols' : List ℕ} {m t prefix : ℕ} {after : List ℕ} {blank r : ℕ} → cols ≡ cols' → Tried before cols m t prefix after blank r
+    → Tried before cols' m t prefix after blank r
+by_columns e R = rw e at R
+
+rising_by : {before cols cols' : List ℕ} {m t prefix s blank : ℕ} {list : List ℕ} {left r p : ℕ} → cols ≡ cols'
+    → Rising before cols m t prefix s blank list left r p → Rising before cols' m t prefix s blank list left r p
+rising_by e R = rw e at R
+
+module _ {before : Filling} {m t prefix s : ℕ} {b : Filling} {r p : ℕ} (G : Growing before m t prefix s b r p) where
+  pub growing-small : p ≤ m → r ≤ 2 ^ 32
+  growing-small h = tried-small G.rising.so_far (omega (arith, G.rising.trying.places))
+
+  module _ (h : p < m) where
+    pub growing_fits : prefix + one_at p < 2 ^ 32
+    growing_fits = place_fits G.rising.trying h
+
+    pub growing_high : 2 ≤ t → TryingIn b p (t - 1) (prefix + one_at p) (s ⊕ get_or b.cols p 0)
+    growing_high two = trying_high G.rising.trying h two G.rising.so_far G.rising.more
+
+    module _ {after : Filling} {r' : ℕ} (S : TriedIn b p (t - 1) (prefix + one_at p) after r') where
+      pub growing_next : 1 ≤ after.blank → Growing before m t prefix s after (r + r') (p + 1)
+      growing_next more = record {
+        rising = rising_by (sym S.columns) (rising_next G.rising h S.tried more);
+        columns = S.columns ∙ G.columns;
+        lent = S.lent ∙ G.lent;
+      }
+
+      pub growing-full : after.blank ≡ 0 → TriedIn before m t prefix after (r + r')
+      growing-full z = record {
+        tried = by_columns G.columns (rising-full G.rising h S.tried z);
+        columns = S.columns ∙ G.columns;
+        lent = S.lent ∙ G.lent;
+      }
+
+  pub growing_end : m ≤ p → TriedIn before m t prefix b r
+  growing_end h = record { tried = by_columns G.columns (rising_end G.rising h); columns = G.columns; lent = G.lent }
 
 -- ---- weight by weight
 
@@ -273,6 +307,16 @@ pub record Offered (size : ℕ) (cols : List ℕ) (n c t : ℕ) (list : List ℕ
   pub filled : list ≡ fills (encode cols) (blanks size) (order n t)
   pub counted : left ≡ blank_count list
   pub number : r ≡ tried (encode cols) (blanks size) (order n t)
+
+-- the same of the list that is being filled
+pub record OfferedIn (before : Filling) (n c t : ℕ) (b : Filling) (r : ℕ) : Type 0 where
+  pub offered : Offered (length before.list.now) b.cols n c t b.list.now b.blank r
+  pub columns : b.cols ≡ before.cols
+  pub lent : b.list.ghost_name ≡ before.list.ghost_name
+
+offered_by : {size : ℕ} {cols cols' : List ℕ} {n c t : ℕ} {list : List ℕ} {left r : ℕ} → cols ≡ cols' → Offered size cols n c t list left r
+    → Offered size cols' n c t list left r
+offered_by e R = rw e at R
 
 -- the zero word takes entry 0 of a blank list
 module _ {list : List ℕ} (size : ℕ) (e : list ≡ blanks size) where
@@ -364,3 +408,15 @@ module _ {size : ℕ} {cols : List ℕ} {n c t : ℕ} {list : List ℕ} {left r 
                 ∙ ap₂ ◌+◌ (sym k) (ap (λ (l : List ℕ). tried (encode cols) l more) (sym f) ∙ tried_done (encode cols) more list (sym O.counted ∙ z))
                 ∙ add-zero r),
           )
+
+module _ {before : Filling} {n c t : ℕ} {b : Filling} {r : ℕ} (O : OfferedIn before n c t b r) where
+  pub offered_more : {after : Filling} {r' : ℕ} → t ≤ c → TriedIn b n t 0 after r' → OfferedIn before n c (t + 1) after (r + r')
+  offered_more h S = record {
+    offered = offered_by (sym S.columns) (offered_next O.offered h S.tried);
+    columns = S.columns ∙ O.columns;
+    lent = S.lent ∙ O.lent;
+  }
+
+  pub offered_all : {cols : List ℕ} {size : ℕ} → before.cols ≡ cols → length before.list.now ≡ size → (c < t) ⊎ (b.blank ≡ 0)
+      → (b.list.now ≡ fills (encode cols) (blanks size) (order n (suc c))) × (r ≡ tried (encode cols) (blanks size) (order n (suc c)))
+  offered_all e z over = rw (z, O.columns ∙ e) at (offered_end O.offered over)

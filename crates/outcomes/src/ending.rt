@@ -51,11 +51,8 @@ pub fn outcome_of(reading: Reading, received: u32, leader: u32) -> Outcome<u32>
     if d == 0 {
         return Outcome::Clean(received);
     }
-    let Reading::Within(radius) = reading else {
-        return Outcome::Mended(sum(received, leader), d as u8);
-    };
-    if d <= radius {
-        return Outcome::Mended(sum(received, leader), d as u8);
+    match reading {
+        Reading::Within(radius) if radius < d => Outcome::Far,
+        _ => Outcome::Mended(sum(received, leader), d as u8),
     }
-    Outcome::Far
 }

@@ -1,4 +1,4 @@
--- Laws of the words in a sheet: how many they are, each of them, that each has 32 bits, and a list of them cut short. Assumes nothing.
+-- Laws of the words in a sheet: how many they are, each of them, that each has 32 bits, and a list of them cut short.
 use mathlib.Core.Path.{◌≡◌, sym}
 use mathlib.Core.List.{List}
 use Prim.Native.Nat.{ℕ, ◌+◌, ◌*◌, ◌^◌, ◌≤◌, ◌<◌}

@@ -1,6 +1,7 @@
--- A written sheet is read as it was written: field after field, and the words of a field of words. Assumes nothing.
+-- A written sheet is read as it was written: field after field, and the words of a field of words.
 use mathlib.Core.Path.{◌≡◌, refl, sym, ap, ◌∙◌}
 use mathlib.Core.List.{List, [], ◌∷◌, ◌++◌, append-nil, append_assoc}
+use Rattle.std.specs.Prelude.{Option, Some, None, Result, Ok}
 use Prim.Native.Nat.{ℕ, zero, suc, ◌+◌, ◌-◌, ◌*◌, ◌/◌, ◌%◌, ◌≤◌, ◌<◌}
 use native.Mathlib.Nat.{add-zero}
 use native.Mathlib.Omega.{arith}
@@ -14,10 +15,10 @@ use Rattle.sheet.specs.Words.{word_at, words_at, words_in}
 use Rattle.sheet.specs.Sheet.{max_sheet, reading_of, sheet_of}
 use Rattle.sheet.specs.Written.{WrittenSheet, field, four_bytes, radius_field, sheet_bytes, ReadBack}
 use Rattle.sheet.specs.declared.answer.Span.{Span}
-use Rattle.sheet.specs.declared.answer.SheetAnswer.{SheetAnswer}
+use Rattle.sheet.specs.declared.answer.Fault.{Fault}
+use Rattle.sheet.specs.declared.answer.Sheet.{Sheet}
 use Rattle.sheet.specs.declared.field.Content.{Content}
-use Rattle.sheet.specs.declared.field.Content.TheVariants.{Absent, Byte, Words}
-use Rattle.sheet.specs.declared.field.Field.TheVariants.{Got}
+use Rattle.sheet.specs.declared.field.Content.TheVariants.{Byte, Words}
 use Rattle.sheet.proofs.SpanLaws.{length-words, word_of}
 use Rattle.sheet.proofs.FieldLaws.{Reads, reads_start, reads_step, reads_end}
 
@@ -91,28 +92,28 @@ module _ (s : List ℕ) (at tag : ℕ) (content rest : List ℕ) (e : drop at s 
 
 -- ---- the fields one after the other: what was read so far, and the bytes that are left
 
-record Left (s : List ℕ) (contents : List Content) (at last : ℕ) (rest : List ℕ) : Type 0 where
+record Left (s : List ℕ) (contents : List (Option Content)) (at last : ℕ) (rest : List ℕ) : Type 0 where
   reads : Reads s contents at last
   left : drop at s ≡ rest
 
-module _ {s : List ℕ} {contents : List Content} {at last : ℕ} (tag : ℕ) (content rest : List ℕ)
+module _ {s : List ℕ} {contents : List (Option Content)} {at last : ℕ} (tag : ℕ) (content rest : List ℕ)
     (L : Left s contents at last (field tag content ++ rest)) (above : last < tag) (known : tag ≤ max_tag) where
   field-left : (x : Content)
-      → gotten (content_of s tag (at + 3) (length content)) at tag (at + 3 + length content) ≡ Got tag x (at + 3 + length content)
-      → Left s (set contents tag x) (at + 3 + length content) tag rest
+      → gotten (content_of s tag (at + 3) (length content)) at tag (at + 3 + length content) ≡ Ok (record { tag = tag; content = x; next = at + 3 + length content })
+      → Left s (set contents tag (Some x)) (at + 3 + length content) tag rest
   field-left x e =
       let h = room s at tag content rest L.left in
       record {
-        reads = reads_step L.reads tag x (at + 3 + length content) (omega arith) (field_back s at tag content rest L.left last above known ∙ e);
+        reads = reads_step L.reads (record { tag = tag; content = x; next = at + 3 + length content }) (omega arith) (field_back s at tag content rest L.left last above known ∙ e);
         left = rest_there s at tag content rest L.left;
       }
 
 -- a field of one byte
-byte_left : {s : List ℕ} {contents : List Content} {at last : ℕ} (tag b : ℕ) (rest : List ℕ) → Left s contents at last (field tag (b ∷ []) ++ rest)
-    → last < tag → tag ≤ max_tag → ((from : ℕ) → content_of s tag from 1 ≡ Byte (get_or s from 0)) → Left s (set contents tag (Byte b)) (at + 4) tag rest
+byte_left : {s : List ℕ} {contents : List (Option Content)} {at last : ℕ} (tag b : ℕ) (rest : List ℕ) → Left s contents at last (field tag (b ∷ []) ++ rest)
+    → last < tag → tag ≤ max_tag → ((from : ℕ) → content_of s tag from 1 ≡ Some (Byte (get_or s from 0))) → Left s (set contents tag (Some (Byte b))) (at + 4) tag rest
 byte_left {s} {contents} {at} tag b rest L above known one =
-    let c : content_of s tag (at + 3) 1 ≡ Byte b
-    = one (at + 3) ∙ ap Byte (rw add-zero at (byte_of s _ (at + 3) 0 (content_there s at tag (b ∷ []) rest L.left))) in
+    let c : content_of s tag (at + 3) 1 ≡ Some (Byte b)
+    = one (at + 3) ∙ ap (λ (x : ℕ). Some (Byte x)) (rw add-zero at (byte_of s _ (at + 3) 0 (content_there s at tag (b ∷ []) rest L.left))) in
     let n : at + 3 + 1 ≡ at + 4 = omega arith in
     rw n at (field-left tag (b ∷ []) rest L above known (Byte b) (rw c))
 
@@ -120,15 +121,15 @@ byte_left {s} {contents} {at} tag b rest L above known one =
 abbrev span_at : ℕ → List ℕ → Span
 span_at at words = record { at = at + 3; count = length words }
 
-words_left : {s : List ℕ} {contents : List Content} {at last : ℕ} (tag : ℕ) (words rest : List ℕ)
+words_left : {s : List ℕ} {contents : List (Option Content)} {at last : ℕ} (tag : ℕ) (words rest : List ℕ)
     → Left s contents at last (field tag (four_bytes words) ++ rest) → last < tag → tag ≤ max_tag
     → ((from size : ℕ) → content_of s tag from size ≡ words_content from size)
-    → Left s (set contents tag (Words (span_at at words))) (at + 3 + length (four_bytes words)) tag rest × (words_in s (span_at at words) ≡ words)
+    → Left s (set contents tag (Some (Words (span_at at words)))) (at + 3 + length (four_bytes words)) tag rest × (words_in s (span_at at words) ≡ words)
 words_left {s} {contents} {at} tag words rest L above known these =
     let l = length-four words in
     let m : length (four_bytes words) % 4 ≡ 0 = omega arith in
     let d : length (four_bytes words) / 4 ≡ length words = omega arith in
-    let c : content_of s tag (at + 3) (length (four_bytes words)) ≡ Words (span_at at words) = these (at + 3) (length (four_bytes words)) ∙ rw (m, d) in (
+    let c : content_of s tag (at + 3) (length (four_bytes words)) ≡ Some (Words (span_at at words)) = these (at + 3) (length (four_bytes words)) ∙ rw (m, d) in (
       field-left tag (four_bytes words) rest L above known (Words (span_at at words)) (rw c),
       words_back s words rest (at + 3) (content_there s at tag (four_bytes words) rest L.left),
     )
@@ -136,12 +137,12 @@ words_left {s} {contents} {at} tag words rest L above known these =
 -- ---- the whole sheet
 
 -- the contents before tag 5
-abbrev before5 : ℕ → ℕ → Span → Content → List Content
-before5 n k rows radius = Absent ∷ Byte n ∷ Byte k ∷ Words rows ∷ radius ∷ Absent ∷ []
+abbrev before5 : ℕ → ℕ → Span → Option Content → List (Option Content)
+before5 n k rows radius = None ∷ Some (Byte n) ∷ Some (Byte k) ∷ Some (Words rows) ∷ radius ∷ None ∷ []
 
 -- a field that may be absent: its content, and how far the reading came
 record Radius (s : List ℕ) (n k : ℕ) (rows : Span) (reading : Reading) (rest : List ℕ) : Type 0 where
-  content : Content
+  content : Option Content
   at : ℕ
   last : ℕ
   below : last < 5
@@ -149,15 +150,15 @@ record Radius (s : List ℕ) (n k : ℕ) (rows : Span) (reading : Reading) (rest
   left : Left s (before5 n k rows content) at last rest
 
 radius-left : {s : List ℕ} {n k at : ℕ} {rows : Span} (reading : Reading) (rest : List ℕ)
-    → Left s (before5 n k rows Absent) at 3 (radius_field reading ++ rest) → Radius s n k rows reading rest
+    → Left s (before5 n k rows None) at 3 (radius_field reading ++ rest) → Radius s n k rows reading rest
 unfolding content_of
-radius-left {s} {n} {k} {at} Nearest rest L = record { content = Absent; at = at; last = 3; below = omega arith; is = refl; left = L }
+radius-left {s} {n} {k} {at} Nearest rest L = record { content = None; at = at; last = 3; below = omega arith; is = refl; left = L }
 radius-left {s} {n} {k} {at} (Within r) rest L =
     let M = byte_left 4 r rest L (omega arith) (omega arith) (λ from. refl) in
-    record { content = Byte r; at = at + 4; last = 4; below = omega arith; is = refl; left = M }
+    record { content = Some (Byte r); at = at + 4; last = 4; below = omega arith; is = refl; left = M }
 
 -- the words are the last field, and then the sheet is at its end
-sheet_back : (w : WrittenSheet) (s : List ℕ) (r : SheetAnswer) → r ≡ sheet_of s → (rows : Span) → words_in s rows ≡ w.rows
+sheet_back : (w : WrittenSheet) (s : List ℕ) (r : Result Sheet Fault) → r ≡ sheet_of s → (rows : Span) → words_in s rows ≡ w.rows
     → Radius s w.n w.k rows w.reading (field 5 (four_bytes w.words)) → ReadBack w s r
 unfolding content_of
 sheet_back w s r a rows e R =
@@ -173,14 +174,14 @@ sheet_back w s r a rows e R =
       words = f;
     }
 
-pub read_back : (w : WrittenSheet) (s : List ℕ) (r : SheetAnswer) → r ≡ sheet_of s → s ≡ sheet_bytes w → length s ≤ max_sheet → ReadBack w s r
+pub read_back : (w : WrittenSheet) (s : List ℕ) (r : Result Sheet Fault) → r ≡ sheet_of s → s ≡ sheet_bytes w → length s ≤ max_sheet → ReadBack w s r
 unfolding content_of
 read_back w s r a e h =
     let f5 = field 5 (four_bytes w.words) in
     let f4 = radius_field w.reading ++ f5 in
     let f3 = field 3 (four_bytes w.rows) ++ f4 in
     let f2 = field 2 (w.k ∷ []) ++ f3 in
-    let L0 : Left s (replicate (suc max_tag) Absent) 0 0 (field 1 (w.n ∷ []) ++ f2)
+    let L0 : Left s (replicate (suc max_tag) None) 0 0 (field 1 (w.n ∷ []) ++ f2)
     = record { reads = reads_start s h; left = e ∙ simp append_assoc } in
     let L1 = byte_left 1 w.n f2 L0 (omega arith) (omega arith) (λ from. refl) in
     let L2 = byte_left 2 w.k f3 L1 (omega arith) (omega arith) (λ from. refl) in

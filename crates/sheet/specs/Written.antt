@@ -1,11 +1,10 @@
 -- 01, "The code sheet": the bytes of a written sheet, without a word about reading.
-use Rattle.std.specs.Prelude.{◌≡◌, List, [], ◌∷◌, ◌++◌, ℕ, ◌/◌, ◌%◌, length}
+use Rattle.std.specs.Prelude.{◌≡◌, List, Result, Ok, [], ◌∷◌, ◌++◌, ℕ, ◌/◌, ◌%◌, length}
 use Rattle.outcomes.specs.declared.ending.Reading.{Reading}
 use Rattle.outcomes.specs.declared.ending.Reading.TheVariants.{Nearest, Within}
 use Rattle.sheet.specs.Words.{words_in}
+use Rattle.sheet.specs.declared.answer.Fault.{Fault}
 use Rattle.sheet.specs.declared.answer.Sheet.{Sheet}
-use Rattle.sheet.specs.declared.answer.SheetAnswer.{SheetAnswer}
-use Rattle.sheet.specs.declared.answer.SheetAnswer.TheVariants.{Read}
 
 -- what a writer puts into a sheet
 pub record WrittenSheet : Type 0 where
@@ -35,9 +34,9 @@ sheet_bytes w =
     field 1 (w.n ∷ []) ++ field 2 (w.k ∷ []) ++ field 3 (four_bytes w.rows) ++ radius_field w.reading ++ field 5 (four_bytes w.words)
 
 -- the answer is a sheet, and it says what was written
-pub record ReadBack (w : WrittenSheet) (s : List ℕ) (r : SheetAnswer) : Type 0 where
+pub record ReadBack (w : WrittenSheet) (s : List ℕ) (r : Result Sheet Fault) : Type 0 where
   pub sheet : Sheet
-  pub is_read : r ≡ Read sheet
+  pub is_read : r ≡ Ok sheet
   pub n : sheet.n ≡ w.n
   pub k : sheet.k ≡ w.k
   pub rows : words_in s sheet.rows ≡ w.rows

@@ -1,4 +1,4 @@
-// How the reading of a sheet ends: the sheet, or cause 12 or 13 of document 01 with its position.
+// What a sheet says, or why it cannot be read: cause 12 or 13 of document 01 with its position.
 ghost use Rattle.std.specs.Prelude.{◌≡◌};
 ghost use Rattle.sheet.specs.Fault.{number_of, value_of};
 
@@ -12,7 +12,7 @@ pub struct Span {
 }
 
 // What a sheet says. Rows and words stay in its bytes.
-#[derive(Drop)]
+#[derive(Clone, Copy)]
 pub struct Sheet {
     pub n: u32,
     pub k: u32,
@@ -28,28 +28,24 @@ pub enum Fault {
     Tag(usize),
 }
 
-#[derive(Drop)]
-pub enum SheetAnswer {
-    Read(Sheet),
-    Refused(Fault),
-}
-
-// The number of a refusal's cause.
-pub fn number(f: Fault) -> u32
-    ensures { result ≡ number_of f }
-{
-    match f {
-        Fault::Layout(_) => 12,
-        Fault::Tag(_) => 13,
+impl Fault {
+    // The number of the cause.
+    pub fn number(self) -> u32
+        ensures { result ≡ number_of self }
+    {
+        match self {
+            Fault::Layout(_) => 12,
+            Fault::Tag(_) => 13,
+        }
     }
-}
 
-// The value returned beside it.
-pub fn value(f: Fault) -> usize
-    ensures { result ≡ value_of f }
-{
-    match f {
-        Fault::Layout(at) => at,
-        Fault::Tag(at) => at,
+    // The value returned beside it.
+    pub fn value(self) -> usize
+        ensures { result ≡ value_of self }
+    {
+        match self {
+            Fault::Layout(at) => at,
+            Fault::Tag(at) => at,
+        }
     }
 }

@@ -7,83 +7,83 @@ use crate::answer::{Fault, Span};
 // The highest tag.
 pub(crate) const MAX_TAG: u8 = 5;
 
-// What a tag has: one byte, or words. Absent: no such field, or none of that length.
+// What a tag has: one byte, or words.
 #[derive(Clone, Copy)]
 pub(crate) enum Content {
-    Absent,
     Byte(u8),
     Words(Span),
 }
 
-// A field that was read, with its tag, its content and where the next field begins; or why it cannot be read.
+// A field that was read: its tag, its content and where the next field begins.
 #[derive(Clone, Copy)]
-pub(crate) enum Field {
-    Got(u8, Content, usize),
-    Bad(Fault),
+pub(crate) struct Field {
+    pub(crate) tag: u8,
+    pub(crate) content: Content,
+    pub(crate) next: usize,
 }
 
 // A field of one byte.
-fn byte_content(bytes: &[u8], from: usize, size: usize) -> Content
+fn byte_content(bytes: &[u8], from: usize, size: usize) -> Option<Content>
     requires { from + size ≤ length bytes.now }
     ensures { result ≡ byte_content bytes.now from size }
 {
     if size != 1 {
-        return Content::Absent;
+        return None;
     }
-    Content::Byte(bytes[from])
+    Some(Content::Byte(bytes[from]))
 }
 
 // A field of words, four bytes each.
-fn words_content(from: usize, size: usize) -> Content
+fn words_content(from: usize, size: usize) -> Option<Content>
     ensures { result ≡ words_content from size }
 {
     if size % 4 != 0 {
-        return Content::Absent;
+        return None;
     }
-    Content::Words(Span {
+    Some(Content::Words(Span {
         at: from,
         count: size / 4,
-    })
+    }))
 }
 
-// The content of so many bytes, by its tag.
-fn content_of(bytes: &[u8], tag: u8, from: usize, size: usize) -> Content
+// The content of so many bytes, by its tag; none where they are not that many.
+#[tactic(auto, unfolding(crate::specs::Field::content_of))]
+fn content_of(bytes: &[u8], tag: u8, from: usize, size: usize) -> Option<Content>
     requires { from + size ≤ length bytes.now }
     ensures { result ≡ content_of bytes.now tag from size }
 {
     match tag {
-        1 => byte_content(bytes, from, size),
-        2 => byte_content(bytes, from, size),
-        3 => words_content(from, size),
-        4 => byte_content(bytes, from, size),
-        5 => words_content(from, size),
-        _ => Content::Absent,
+        1 | 2 | 4 => byte_content(bytes, from, size),
+        3 | 5 => words_content(from, size),
+        _ => None,
     }
 }
 
 // The field whose tag is at this position, after the last tag.
-pub(crate) fn field_at(bytes: &[u8], at: usize, last: u8) -> Field
+#[tactic(auto, unfolding(crate::specs::Field::field_at))]
+pub(crate) fn field_at(bytes: &[u8], at: usize, last: u8) -> Result<Field, Fault>
     requires { at ≤ length bytes.now }
     ensures { result ≡ field_at bytes.now at last }
 {
     let left = bytes.len() - at;
     if left < 3 {
-        return Field::Bad(Fault::Layout(at));
+        return Err(Fault::Layout(at));
     }
     let tag = bytes[at];
     if MAX_TAG < tag {
-        return Field::Bad(Fault::Tag(at));
+        return Err(Fault::Tag(at));
     }
     if tag <= last {
-        return Field::Bad(Fault::Tag(at));
+        return Err(Fault::Tag(at));
     }
-    let size = (bytes[at + 1] as usize) * 256 + bytes[at + 2] as usize;
+    let size = usize::from(u16::from_be_bytes([bytes[at + 1], bytes[at + 2]]));
     if left - 3 < size {
-        return Field::Bad(Fault::Layout(at));
+        return Err(Fault::Layout(at));
     }
-    let content = content_of(bytes, tag, at + 3, size);
-    if let Content::Absent = content {
-        return Field::Bad(Fault::Layout(at));
-    }
-    Field::Got(tag, content, at + 3 + size)
+    let content = content_of(bytes, tag, at + 3, size).ok_or(Fault::Layout(at))?;
+    Ok(Field {
+        tag,
+        content,
+        next: at + 3 + size,
+    })
 }

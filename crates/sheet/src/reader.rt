@@ -3,7 +3,7 @@ ghost use Rattle.std.specs.Prelude.{◌≡◌, length};
 ghost use Rattle.sheet.specs.Sheet.{reading_of, sheet_in};
 ghost use Rattle.sheet.specs.SheetRead.{SheetRead};
 
-use crate::answer::{Fault, Sheet, SheetAnswer};
+use crate::answer::{Fault, Sheet};
 use crate::field::{Content, Field, field_at};
 use outcomes::Reading;
 
@@ -14,73 +14,53 @@ pub const MAX_SHEET: usize = 4096;
 const TAGS: usize = 6;
 
 // No tag 4 means nearest.
-fn reading_of(radius: Content) -> Reading
+fn reading_of(radius: Option<Content>) -> Reading
     ensures { result ≡ reading_of radius }
 {
-    let Content::Byte(r) = radius else {
-        return Reading::Nearest;
-    };
-    Reading::Within(r as u32)
+    match radius {
+        Some(Content::Byte(r)) => Reading::Within(u32::from(r)),
+        _ => Reading::Nearest,
+    }
 }
 
 // The sheet of these contents, entry t being that of tag t; a missing tag is refused at the sheet's length.
-fn sheet_in(contents: [Content; TAGS], end: usize) -> SheetAnswer
+fn sheet_in(contents: [Option<Content>; TAGS], end: usize) -> Result<Sheet, Fault>
     requires { length contents ≡ 6 }
     ensures { result ≡ sheet_in contents end }
 {
-    let c1 = contents[1];
-    let Content::Byte(n) = c1 else {
-        return SheetAnswer::Refused(Fault::Tag(end));
+    let [
+        _,
+        Some(Content::Byte(n)),
+        Some(Content::Byte(k)),
+        Some(Content::Words(rows)),
+        radius,
+        Some(Content::Words(words)),
+    ] = contents
+    else {
+        return Err(Fault::Tag(end));
     };
-    let c2 = contents[2];
-    let Content::Byte(k) = c2 else {
-        return SheetAnswer::Refused(Fault::Tag(end));
-    };
-    let c3 = contents[3];
-    let Content::Words(rows) = c3 else {
-        return SheetAnswer::Refused(Fault::Tag(end));
-    };
-    let c5 = contents[5];
-    let Content::Words(words) = c5 else {
-        return SheetAnswer::Refused(Fault::Tag(end));
-    };
-    let c4 = contents[4];
-    let reading = reading_of(c4);
-    SheetAnswer::Read(Sheet {
-        n: n as u32,
-        k: k as u32,
+    Ok(Sheet {
+        n: u32::from(n),
+        k: u32::from(k),
         rows,
-        reading,
+        reading: reading_of(radius),
         words,
     })
 }
 
-// A field that cannot be read is the sheet's refusal.
-fn refusal(f: Field) -> SheetAnswer
-    ensures { (c : Fault) → f ≡ Field.Bad c → result ≡ SheetAnswer.Refused c }
-{
-    match f {
-        Field::Bad(fault) => SheetAnswer::Refused(fault),
-        Field::Got(_, _, next) => SheetAnswer::Refused(Fault::Layout(next)),
-    }
-}
-
 // Reads a sheet.
-pub fn read(bytes: &[u8]) -> SheetAnswer
+pub fn read(bytes: &[u8]) -> Result<Sheet, Fault>
     ensures { SheetRead bytes.now result }
 {
     if MAX_SHEET < bytes.len() {
-        return SheetAnswer::Refused(Fault::Layout(MAX_SHEET));
+        return Err(Fault::Layout(MAX_SHEET));
     }
-    let mut contents = [Content::Absent; TAGS];
+    let mut contents = [None; TAGS];
     let mut at: usize = 0;
     let mut last: u8 = 0;
     while at < bytes.len() {
-        let f = field_at(bytes, at, last);
-        let Field::Got(tag, content, next) = f else {
-            return refusal(f);
-        };
-        contents[tag as usize] = content;
+        let Field { tag, content, next } = field_at(bytes, at, last)?;
+        contents[usize::from(tag)] = Some(content);
         at = next;
         last = tag;
     }

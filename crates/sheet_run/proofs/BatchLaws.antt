@@ -1,4 +1,4 @@
--- Laws of a batch: the lines and the tally by the slots of Decode's lists are those of the outcomes. Assumes nothing.
+-- Laws of a batch: the lines and the tally by the slots of Decode's lists are those of the outcomes.
 use mathlib.Core.Path.{◌≡◌, refl, sym, ap, ap₂, ◌∙◌}
 use mathlib.Core.Bool.{Bool, true, false}
 use mathlib.Core.List.{List, [], ◌∷◌, ◌++◌, map}

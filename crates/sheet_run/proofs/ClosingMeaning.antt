@@ -1,6 +1,7 @@
--- What the closing line means: its four numbers are those that the lines of the words show, and each word is counted once. Assumes nothing.
+-- What the closing line means: its four numbers are those that the lines of the words show, and each word is counted once.
 use mathlib.Core.Path.{◌≡◌, refl, ap, ◌∙◌}
 use mathlib.Core.List.{List, [], ◌∷◌, ◌++◌, map, append_assoc}
+use Rattle.std.specs.Prelude.{Result, Ok, Err}
 use Prim.Native.Nat.{ℕ, ◌^◌}
 use native.Mathlib.Omega.{arith}
 use lib.ListN.{length-map}
@@ -17,9 +18,8 @@ use Rattle.decoder.specs.Causes.{decode_answer}
 use Rattle.decoder.proofs.DecodeCauseLaws.{batch_in}
 use Rattle.sheet.specs.Sheet.{sheet_of}
 use Rattle.sheet.specs.Words.{words_in}
+use Rattle.sheet.specs.declared.answer.Fault.{Fault}
 use Rattle.sheet.specs.declared.answer.Sheet.{Sheet}
-use Rattle.sheet.specs.declared.answer.SheetAnswer.{SheetAnswer}
-use Rattle.sheet.specs.declared.answer.SheetAnswer.TheVariants as reading
 use Rattle.sheet.proofs.SpanLaws.{length-words}
 use Rattle.lines.specs.Text.{space, line_feed}
 use Rattle.lines.specs.Closing.{closing_line}
@@ -82,7 +82,7 @@ closing_shows n k rows A reading words =
     ap shown (after_blank_lem (digits_of n (word_in o w)) (ending o) (digits_of_without space (omega arith) n (word_in o w)))
     ∙ shown-ending o (decoded-tells n k rows A reading w)) words
 
-module _ (sheet : List ℕ) (s : Sheet) (e : sheet_of sheet ≡ reading.Read s) where
+module _ (sheet : List ℕ) (s : Sheet) (e : sheet_of sheet ≡ Ok s) where
   abbrev rows_of : List ℕ
   rows_of = words_in sheet s.rows
 
@@ -120,9 +120,9 @@ module _ (sheet : List ℕ) (s : Sheet) (e : sheet_of sheet ≡ reading.Read s) 
           (batch_in s.n s.k rows_of s.reading received max_words max_words (2 ^ max_checks) q).matrix)
       go (Refused c) q h = absurd (h (refused_begins _ _))
 
-closed_as : (sheet : List ℕ) (a : SheetAnswer) → sheet_of sheet ≡ a → Closed sheet (printed sheet a)
-closed_as sheet (reading.Read s) e = batch-closed sheet s e
-closed_as sheet (reading.Refused f) e = λ h. absurd (h (refused_begins _ _))
+closed_as : (sheet : List ℕ) (a : Result Sheet Fault) → sheet_of sheet ≡ a → Closed sheet (printed sheet a)
+closed_as sheet (Ok s) e = batch-closed sheet s e
+closed_as sheet (Err f) e = λ h. absurd (h (refused_begins _ _))
 
 -- the last line of every output that is no refusal says what its lines show
 pub output_closed : (sheet : List ℕ) → Closed sheet (output_of sheet)

@@ -1,5 +1,5 @@
 -- Laws of a cut list: more rows than any code has, or more words than a batch may have, are refused alike however many they are.
--- Assumes nothing.
+--
 use mathlib.Core.Path.{◌≡◌, refl, sym, ap, ap₂, ◌∙◌}
 use mathlib.Core.Bool.{Bool, true, false}
 use mathlib.Core.List.{List}

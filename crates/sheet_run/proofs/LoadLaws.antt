@@ -1,4 +1,4 @@
--- Laws of a list into which words were loaded. Assumes nothing.
+-- Laws of a list into which words were loaded.
 use mathlib.Core.Path.{◌≡◌, sym, ap, ◌∙◌}
 use mathlib.Core.List.{List}
 use Prim.Native.Nat.{ℕ, ◌≤◌}

@@ -1,4 +1,4 @@
--- What a refusal of the output means: at 32 places none is under 3 or 7. Assumes nothing.
+-- What a refusal of the output means: at 32 places none is under 3 or 7.
 use mathlib.Core.Path.{◌≡◌, refl, sym, ap, ◌∙◌}
 use mathlib.Core.List.{List, [], ◌∷◌, ◌++◌}
 use Prim.Native.Nat.{ℕ, ◌+◌, ◌^◌, ◌<◌}

@@ -1,7 +1,8 @@
--- Laws of the run: what a writer from the first slot on leaves. Assumes nothing.
+-- Laws of the run: what a writer from the first slot on leaves.
 use mathlib.Core.Path.{◌≡◌, refl, ap, ◌∙◌}
 use mathlib.Core.List.{List, ◌++◌}
 use mathlib.Core.Bool.{Bool, true, false, cond}
+use Rattle.std.specs.Prelude.{Result}
 use Prim.Native.Nat.{ℕ, ◌^◌, ◌≤◌, ◌<◌}
 use native.Mathlib.Nat.{zero-add}
 use native.Mathlib.Omega.{arith}
@@ -14,7 +15,8 @@ use Rattle.sheet.specs.Sheet.{sheet_of}
 use Rattle.sheet_run.specs.Output.{printed, output_of}
 use Rattle.sheet_run.specs.Run.{Ran}
 use Rattle.lines.specs.Put.{max_output}
-use Rattle.sheet.specs.declared.answer.SheetAnswer.{SheetAnswer}
+use Rattle.sheet.specs.declared.answer.Fault.{Fault}
+use Rattle.sheet.specs.declared.answer.Sheet.{Sheet}
 use Rattle.sheet_run.proofs.RefusalMeaning.{every_word-shown}
 use Rattle.sheet_run.proofs.ClosingMeaning.{output_closed}
 
@@ -32,7 +34,7 @@ module _ (sheet before : List ℕ) where
   output_there {r} {after} h B =
       ap (take r) B.list ∙ take_at (output_of sheet) _ r (omega (arith, B.ends))
 
-  pub ran : ((i : ℕ) → get_or sheet i 0 < 2 ^ 8) → {a : SheetAnswer} {r : ℕ} {after : List ℕ} → max_output ≤ length before → a ≡ sheet_of sheet
+  pub ran : ((i : ℕ) → get_or sheet i 0 < 2 ^ 8) → {a : Result Sheet Fault} {r : ℕ} {after : List ℕ} → max_output ≤ length before → a ≡ sheet_of sheet
       → Appends before 0 (printed sheet a) after r → Ran sheet before r after
   unfolding output_of
   ran f {a} {r} {after} h e A =

@@ -1,5 +1,5 @@
 -- 01, "The code sheet", and 02, No. 1: what the program prints for the bytes of a sheet.
-use Rattle.std.specs.Prelude.{List, [], ◌∷◌, ◌++◌, map, ℕ, ◌^◌}
+use Rattle.std.specs.Prelude.{Result, Ok, Err, List, [], ◌∷◌, ◌++◌, map, ℕ, ◌^◌}
 use Rattle.coding.specs.Weight.{dmin}
 use Rattle.words.specs.Limits.{max_words, max_checks}
 use Rattle.answers.specs.Refusal.{number_of, value_of}
@@ -16,8 +16,8 @@ use Rattle.lines.specs.Text.{space, line_feed}
 use Rattle.lines.specs.Line.{refused_line, code_line, digits_of, ending}
 use Rattle.lines.specs.Closing.{closing_line}
 use Rattle.tally.specs.Tally.{tally_of}
-use Rattle.sheet.specs.declared.answer.SheetAnswer.{SheetAnswer}
-use Rattle.sheet.specs.declared.answer.SheetAnswer.TheVariants as reading
+use Rattle.sheet.specs.declared.answer.Fault.{Fault}
+use Rattle.sheet.specs.declared.answer.Sheet.{Sheet}
 
 -- ---- the lines of the words
 
@@ -45,10 +45,10 @@ batch_output n k rows reading words =
     lines_of (decode_answer n k rows reading words max_words max_words (2 ^ max_checks)) n k rows reading words
 
 -- the output for a sheet that was read, or the one line of a refusal
-abbrev pub printed : List ℕ → SheetAnswer → List ℕ
-printed s (reading.Read h) =
+abbrev pub printed : List ℕ → Result Sheet Fault → List ℕ
+printed s (Ok h) =
     batch_output h.n h.k (words_in s h.rows) h.reading (words_in s h.words)
-printed s (reading.Refused f) = refused_line (fault.number_of f) (fault.value_of f)
+printed s (Err f) = refused_line (fault.number_of f) (fault.value_of f)
 
 -- the bytes printed for the bytes of a sheet
 unfoldable pub output_of : List ℕ → List ℕ

@@ -12,7 +12,7 @@ use answers::{Answer, Refusal};
 use decoder::decode_measured;
 use lines::{MAX_OUTPUT, put_batch, put_refusal};
 use outcomes::Reading;
-use sheet::{Sheet, SheetAnswer, number, read, value};
+use sheet::{Sheet, read};
 use words::limits::MAX_WORDS;
 
 // More rows and words than any sheet is accepted with: a longer list is refused under the same cause.
@@ -61,7 +61,7 @@ fn run_batch(n: u32, k: u32, rows: &[u32], reading: Reading, words: &[u32], out:
 fn run_sheet(bytes: &[u8], s: Sheet, out: &mut [u8]) -> usize
     requires { (max_output ≤ length out.old) × (s.rows.at + 4 * s.rows.count ≤ length bytes.now)
         × (s.words.at + 4 * s.words.count ≤ length bytes.now) }
-    ensures { Appends out.old 0 (printed bytes.now (SheetAnswer.Read s)) out.new result }
+    ensures { Appends out.old 0 (printed bytes.now (Ok s)) out.new result }
 {
     let mut rows = [0u32; ROWS_READ];
     let mut words = [0u32; WORDS_READ];
@@ -88,9 +88,8 @@ pub fn run(sheet: &[u8], out: &mut [u8]) -> usize
     if out.len() < MAX_OUTPUT {
         return 0;
     }
-    let a = read(sheet);
-    match a {
-        SheetAnswer::Read(s) => run_sheet(sheet, s, out),
-        SheetAnswer::Refused(f) => put_refusal(out, number(f), value(f)),
+    match read(sheet) {
+        Ok(s) => run_sheet(sheet, s, out),
+        Err(f) => put_refusal(out, f.number(), f.value()),
     }
 }

@@ -1,4 +1,4 @@
--- Laws of Describe: what a finished walk tells of an accepted matrix, and a refusal. Assumes nothing.
+-- Laws of Describe: what a finished walk tells of an accepted matrix, and a refusal.
 use mathlib.Core.Path.{◌≡◌, sym, ap, ◌∙◌}
 use mathlib.Core.List.{List}
 use Prim.Native.Nat.{ℕ, ◌+◌, ◌^◌}

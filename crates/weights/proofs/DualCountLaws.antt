@@ -1,4 +1,4 @@
--- The weight counts of an accepted matrix from a walk over the sums of its check rows. Assumes nothing.
+-- The weight counts of an accepted matrix from a walk over the sums of its check rows.
 use mathlib.Core.Path.{◌≡◌, sym, ap, ◌∙◌}
 use mathlib.Core.List.{List}
 use Prim.Native.Nat.{ℕ, suc, ◌+◌, ◌-◌, ◌*◌, ◌/◌, ◌^◌, ◌≤◌, ◌<◌}
@@ -23,7 +23,7 @@ use Rattle.words.proofs.CodeLaws.{frees_are}
 use Rattle.walk.specs.Walked.{Walked}
 use Rattle.weights.specs.Inner.Overlap.{part_sum, slots}
 use Rattle.walk.specs.declared.walk.Walk.{Walk}
-use Rattle.weights.proofs.WeightSlotLaws.{slots_long, slots_at, slots_same}
+use Rattle.weights.proofs.WeightSlotLaws.{slots_at, slots_same}
 use Rattle.weights.proofs.OverlapSumLaws.{part_end}
 
 module _ (n k : ℕ) (rows : List ℕ) (A : Accepted n k rows) where
@@ -79,9 +79,6 @@ module _ (n k : ℕ) (rows : List ℕ) (A : Accepted n k rows) where
 
       pub quotient_fits : (j : ℕ) → j < 33 → (get_or odd j 0 ≤ get_or even j 0) × ((get_or even j 0 - get_or odd j 0) / 2 ^ length (checks n rows) < 2 ^ 32)
       quotient_fits j h = (omega (arith, at j h), rw (quotient j h) (count_fits j))
-
-      pub sizes_are : (length even ≡ 33) × (length odd ≡ 33)
-      sizes_are = (ap length e ∙ slots_long _, ap length o ∙ slots_long _)
 
       pub quotients_are : slots (λ j. (get_or even j 0 - get_or odd j 0) / 2 ^ length (checks n rows)) ≡ slots (weight_count n rows)
       quotients_are = slots_same _ _ quotient

@@ -1,17 +1,17 @@
--- Laws of the sums of overlaps, weight by weight from the largest. Assumes nothing.
+-- Laws of the sums of overlaps, weight by weight from the largest.
 use mathlib.Core.Path.{◌≡◌, refl, sym, ap, ap₂, ◌∙◌}
 use mathlib.Core.List.{List}
 use Prim.Native.Nat.{ℕ, zero, suc, ◌+◌, ◌-◌, ◌*◌, ◌^◌, ◌≤◌, ◌<◌}
 use native.Mathlib.Nat.{le_refl, le_trans, mul-add, mul-zero, pow-suc, mul-le-mul, suc-add, add-suc, suc-mul}
 use native.Mathlib.Numerals.{add-one}
 use native.Mathlib.Omega.{arith}
-use lib.ListN.{length, get_or, set}
+use lib.ListN.{get_or, set}
 use lib.Pow.{pow_mono}
 use Rattle.coding.specs.Lists.{zeros}
 use Rattle.coding.specs.Dual.{sum_below, overlaps}
 use Rattle.coding.proofs.SumLaws.{sum_same, sum-add}
 use Rattle.weights.specs.Inner.Overlap.{earlier, part_sum, slots}
-use Rattle.weights.proofs.WeightSlotLaws.{slots_long, slots_at, slots_same, slots-below, earlier_at}
+use Rattle.weights.proofs.WeightSlotLaws.{slots_at, slots_same, slots-below, earlier_at}
 
 -- ---- one weight more
 
@@ -162,9 +162,6 @@ module _ (n : ℕ) (B : ℕ → ℕ) (few : (i : ℕ) → B i ≤ 4096) (places 
   pub all_small : (j : ℕ) → get_or all j 0 < 2 ^ 51
   all_small j = omega (arith, all-le j)
 
-  pub sizes : (length even ≡ 33) × (length odd ≡ 33) × (length all ≡ 33)
-  sizes = (ap length R.evens ∙ slots_long _, ap length R.odds ∙ slots_long _, ap length R.alls ∙ slots_long _)
-
   module _ {kept : List ℕ} (k : kept ≡ moved even odd) where
     kept_is : kept ≡ slots (λ j. part_sum 0 n B s j + earlier (part_sum 1 n B s) j)
     kept_is = k ∙ moved_is (part_sum 0 n B s) (part_sum 1 n B s) R.evens R.odds
@@ -172,9 +169,6 @@ module _ (n : ℕ) (B : ℕ → ℕ) (few : (i : ℕ) → B i ≤ 4096) (places 
     pub kept_small : (j : ℕ) → get_or kept j 0 < 2 ^ 51
     kept_small j =
         rw kept_is (slots-below (λ j. part_sum 0 n B s j + earlier (part_sum 1 n B s) j) (2 ^ 51) (λ i. omega (arith, part_fits 0 i, earlier_fits 1 i)) j)
-
-    pub kept_long : length kept ≡ 33
-    kept_long = ap length k ∙ slots_long _
 
     pub running_next : {even' odd' all' : List ℕ} → odd' ≡ moved odd even → even' ≡ slots (λ j. get_or kept j 0 + B (n - s) * get_or all j 0)
         → all' ≡ moved all all → Running n B even' odd' all' (s + 1)

@@ -1,5 +1,4 @@
--- What the walk over all codewords would find, from the weight counts and the smallest sum of reduced rows of the least weight. Assumes
--- nothing.
+-- What the walk over all codewords would find, from the weight counts and the smallest sum of reduced rows of the least weight.
 use mathlib.Core.Path.{◌≡◌, refl, sym, ap, ◌∙◌}
 use mathlib.Core.Logic.{◌⊎◌, inl, inr}
 use mathlib.Core.List.{List}

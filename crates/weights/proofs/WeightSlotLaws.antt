@@ -1,12 +1,14 @@
--- Laws of lists with an entry for each weight, filled from the front. Assumes nothing.
-use mathlib.Core.Path.{◌≡◌, refl, sym, ap, ◌∙◌}
+-- Laws of lists with an entry for each weight.
+use mathlib.Core.Path.{◌≡◌, refl, subst, ◌∙◌}
 use mathlib.Core.List.{List}
-use Prim.Native.Nat.{ℕ, zero, suc, ◌+◌, ◌-◌, ◌≤◌, ◌<◌}
+use Prim.Native.Nat.{ℕ, zero, suc, ◌+◌, ◌≤◌, ◌<◌}
 use native.Mathlib.Decide.{dec_le}
 use native.Mathlib.Omega.{arith}
-use lib.ListN.{length, get_or, set, get_or-eq_default}
+use lib.ListN.{length, get_or, get_or-eq_default}
+use denote.Param.Members.{Mut, Called}
+use Rattle.std.specs.Array.{IsFromFnResult, IsFromFnResultFrom}
+use Rattle.std.proofs.lemmas.List.FromFn.{fill_by_all}
 use Rattle.coding.proofs.ListLaws.{length-tabulate, get_d_tabulate, tabulate_same}
-use Rattle.coding.proofs.LoopLaws.{Over, over_start, over_step, over-full}
 use Rattle.weights.specs.Inner.Overlap.{earlier, slots}
 
 pub slots_long : (f : ℕ → ℕ) → length (slots f) ≡ 33
@@ -34,26 +36,25 @@ pub earlier_at : (f : ℕ → ℕ) (j : ℕ) → j < 33 → earlier (λ i. get_o
 earlier_at f zero h = refl
 earlier_at f (suc j) h = slots_at f j (omega arith)
 
-pub earlier_less : (f : ℕ → ℕ) (j : ℕ) → 1 ≤ j → f (j - 1) ≡ earlier f j
-earlier_less f zero h = absurd (omega arith)
-earlier_less f (suc j) h = let e : suc j - 1 ≡ j = omega arith in ap f e
+-- ---- an array made entry by entry: the closure gives h of each index, and its captures stay
 
--- the first j entries have been written
-pub record Filling (f : ℕ → ℕ) (old : List ℕ) (j : ℕ) (l : List ℕ) : Type 0 where
-  pub upto : j ≤ 33
-  pub size : length old ≡ 33
-  pub list : Over (slots f) old j l
+module _ {F : Type 0} (g : Mut F (ℕ × Unit {0}) ℕ) (h : ℕ → ℕ) (ys : List ℕ) (m : ℕ) where
+  given_from : (f : F) (n i : ℕ) → i + n ≡ m → IsFromFnResultFrom g f ys i n
+      → ((x r : ℕ) (q : F) → x < m → Called g f (x, tt) r q → (q ≡ f) × (r ≡ h x)) → (k : ℕ) → i ≤ k → k < m → get_or ys k 0 ≡ h k
+  given_from f zero i e R acts k low high = absurd (omega arith)
+  given_from f (suc n) i e (q, y, is, called, rest) acts k low high =
+      let now = acts i y q (omega arith) called in
+      first i k y (is.1 0) now.1 low
+      (λ l. given_from f n (i + 1) (omega arith) (subst (λ (p : F). IsFromFnResultFrom g p ys (i + 1) n) now.0 rest) acts k (omega arith) high)
+    where
+      first : (i k y : ℕ) → get_or ys i 0 ≡ y → y ≡ h i → i ≤ k → (i < k → get_or ys k 0 ≡ h k) → get_or ys k 0 ≡ h k
+      first i k y is e low later = go (dec_le (suc i) k)
+        where
+          go : Dec (i < k) → get_or ys k 0 ≡ h k
+          go (yes l) = later l
+          go (no l) = let same : i ≡ k = omega arith in subst (λ (x : ℕ). get_or ys x 0 ≡ h x) same (is ∙ e)
 
-pub filling_start : (f : ℕ → ℕ) (old : List ℕ) → length old ≡ 33 → Filling f old 0 old
-filling_start f old e = record { upto = omega arith; size = e; list = over_start (slots f) old }
-
-module _ {f : ℕ → ℕ} {old : List ℕ} {j : ℕ} {l : List ℕ} (F : Filling f old j l) where
-  pub filling_step : (v : ℕ) → j < 33 → v ≡ f j → Filling f old (j + 1) (set l j v)
-  filling_step v h e = record {
-    upto = omega arith;
-    size = F.size;
-    list = over_step F.list v (rw slots_long h) (rw F.size h) (e ∙ sym (slots_at f j h));
-  }
-
-  pub filling_end : 33 ≤ j → l ≡ slots f
-  filling_end h = over-full F.list (slots_long f ∙ sym F.size) (rw F.size h)
+pub slots_given : {F : Type 0} (g : Mut F (ℕ × Unit {0}) ℕ) (h : ℕ → ℕ) (f : F) (ys : List ℕ) → IsFromFnResult g f ys 33
+    → ((x r : ℕ) (q : F) → x < 33 → Called g f (x, tt) r q → (q ≡ f) × (r ≡ h x)) → ys ≡ slots h
+unfolding slots
+slots_given g h f ys R acts = fill_by_all h ys 33 0 R.long (λ k l. given_from g h ys 33 f 33 0 refl R.each acts k (omega arith) l)

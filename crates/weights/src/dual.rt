@@ -22,40 +22,33 @@ struct Overlaps {
     odd: [u64; WEIGHT_SLOTS],
 }
 
+// The entry before entry j, 0 before the first.
+fn before(b: &[u64; WEIGHT_SLOTS], j: usize) -> u64
+    requires { j < weight_slots }
+    ensures { result ≡ earlier (λ i. get_or b.now i 0) j }
+{
+    if j == 0 { 0 } else { b[j - 1] }
+}
+
 // The entries of a, each with the entry before it of b added.
 fn shifted(a: &[u64; WEIGHT_SLOTS], b: &[u64; WEIGHT_SLOTS]) -> [u64; WEIGHT_SLOTS]
-    requires small { Small a.now × Small b.now }
-    requires a_len { (length a.now ≡ weight_slots) × (length b.now ≡ weight_slots) }
+    requires { Small a.now × Small b.now }
     ensures { result ≡ slots (λ j. get_or a.now j 0 + earlier (λ i. get_or b.now i 0) j) }
 {
-    let mut sums = [0u64; WEIGHT_SLOTS];
-    sums[0] = a[0];
-    let mut j: usize = 1;
-    while j < WEIGHT_SLOTS {
-        sums[j] = a[j] + b[j - 1];
-        j += 1;
-    }
-    sums
+    std::array::from_fn(|j| a[j] + before(b, j))
 }
 
 // The entries of a, each with the entry of b so many times.
 fn added(a: &[u64; WEIGHT_SLOTS], times: u64, b: &[u64; WEIGHT_SLOTS]) -> [u64; WEIGHT_SLOTS]
-    requires small { ((j : ℕ) → get_or a.now j 0 < 2 ^ 51) × (times ≤ 4096) × ((j : ℕ) → get_or b.now j 0 ≤ 2 ^ 33) }
-    requires a_len { (length a.now ≡ weight_slots) × (length b.now ≡ weight_slots) }
+    requires { Small a.now × (times ≤ 4096) × ((j : ℕ) → get_or b.now j 0 ≤ 2 ^ 33) }
     ensures { result ≡ slots (λ j. get_or a.now j 0 + times * get_or b.now j 0) }
 {
-    let mut sums = [0u64; WEIGHT_SLOTS];
-    let mut j: usize = 0;
-    while j < WEIGHT_SLOTS {
-        sums[j] = a[j] + times * b[j];
-        j += 1;
-    }
-    sums
+    std::array::from_fn(|j| a[j] + times * b[j])
 }
 
 // The overlaps with words of n places, so many of each weight: from the largest weight down, one place after the other.
 fn overlap_counts(n: usize, counts: &[u32; WEIGHT_SLOTS]) -> Overlaps
-    requires { (n ≤ width) × (length counts.now ≡ weight_slots) × ((i : ℕ) → get_or counts.now i 0 ≤ 4096) }
+    requires { (n ≤ width) × ((i : ℕ) → get_or counts.now i 0 ≤ 4096) }
     ensures { (result.even ≡ slots (part_sum 0 n (λ i. get_or counts.now i 0) (suc n)))
         × (result.odd ≡ slots (part_sum 1 n (λ i. get_or counts.now i 0) (suc n))) }
 {
@@ -63,32 +56,23 @@ fn overlap_counts(n: usize, counts: &[u32; WEIGHT_SLOTS]) -> Overlaps
     let mut odd = [0u64; WEIGHT_SLOTS];
     let mut all = [0u64; WEIGHT_SLOTS];
     all[0] = 1;
-    let mut s: usize = 0;
-    while s <= n {
-        let b = counts[n - s] as u64;
+    for count in counts[..=n].iter().rev() {
         let kept = shifted(&even, &odd);
         odd = shifted(&odd, &even);
-        even = added(&kept, b, &all);
+        even = added(&kept, u64::from(*count), &all);
         all = shifted(&all, &all);
-        s += 1;
     }
     Overlaps { even, odd }
 }
 
 // The differences of the entries, without their low places.
 fn quotients(even: &[u64; WEIGHT_SLOTS], odd: &[u64; WEIGHT_SLOTS], low: u32) -> [u32; WEIGHT_SLOTS]
-    requires even_len { (length even.now ≡ weight_slots) × (length odd.now ≡ weight_slots) × (low < width) }
+    requires low { low < width }
     requires fits { (j : ℕ) → j < weight_slots → (get_or odd.now j 0 ≤ get_or even.now j 0)
         × ((get_or even.now j 0 - get_or odd.now j 0) / 2 ^ low < 2 ^ 32) }
     ensures { result ≡ slots (λ j. (get_or even.now j 0 - get_or odd.now j 0) / 2 ^ low) }
 {
-    let mut counts = [0u32; WEIGHT_SLOTS];
-    let mut j: usize = 0;
-    while j < WEIGHT_SLOTS {
-        counts[j] = ((even[j] - odd[j]) >> low) as u32;
-        j += 1;
-    }
-    counts
+    std::array::from_fn(|j| ((even[j] - odd[j]) >> low) as u32)
 }
 
 // The weight counts of the code of these check rows.

@@ -5,6 +5,7 @@ use Rattle.coding.specs.Matrix.{encode}
 use Rattle.coding.specs.Order.{words, fills}
 use Rattle.coding.specs.Tries.{blank_count, tried}
 use Rattle.words.specs.Limits.{width}
+use Rattle.leaders.specs.declared.build.Filling.{Filling}
 
 -- the words prefix + w of m places and weight t more are to be tried: the prefix has its ones at place m or beyond and its syndrome is s,
 -- every syndrome has an entry, and `blank` entries are blank, one at least
@@ -26,7 +27,12 @@ pub record Tried (before cols : List ℕ) (m t prefix : ℕ) (after : List ℕ) 
   pub left : blank ≡ blank_count after
   pub count : r ≡ tried (encode cols) before (map (λ w. prefix + w) (words m t))
 
--- of the words with one place more the one at place `last` filled the last blank entry; where that is m, entries are still blank
-pub record TriedUnits (before cols : List ℕ) (m prefix : ℕ) (after : List ℕ) (blank last : ℕ) : Type 0 where
-  pub ended : last < m → Tried before cols m 1 prefix after blank (last + 1) × (blank ≡ 0)
-  pub left : m ≤ last → Tried before cols m 1 prefix after blank m × (1 ≤ blank)
+-- the same of a list that is being filled
+abbrev pub TryingIn : Filling → ℕ → ℕ → ℕ → ℕ → Type 0
+TryingIn b m t prefix s = Trying b.list.now b.cols m t prefix s b.blank
+
+-- it keeps its columns and the list that it was lent
+pub record TriedIn (before : Filling) (m t prefix : ℕ) (after : Filling) (r : ℕ) : Type 0 where
+  pub tried : Tried before.list.now before.cols m t prefix after.list.now after.blank r
+  pub columns : after.cols ≡ before.cols
+  pub lent : after.list.ghost_name ≡ before.list.ghost_name

@@ -1,10 +1,10 @@
--- A joint below 2 is one of bytes below 2.
-use Rattle.coding.proofs.LoopLaws.{gathered_step}
+-- The joint is below 2 exactly when each byte is.
+use Rattle.std.proofs.Common.{◌≡◌, ℕ, rules, bit_or}
+use Rattle.std.specs.List.{fold}
 use Rattle.interleaving.proofs.BitLaws.{bits_test}
 use Rattle.interleaving.proofs.causes.only_bits.Goals as goal
 
-pub loop-b-preserved : goal.loop-b-preserved
-loop-b-preserved c = gathered_step c.loop-b.invariant c.loop-b-test.true
-
 pub returns : goal.returns
-returns c = bits_test _ _ _ c.loop-b.invariant c.loop-b-test.false
+returns c =
+    let e : c.fold.result ≡ fold (λ (a x : ℕ). bit_or a x) 0 c.args.bits.now = search rules in
+    rw e (bits_test c.args.bits.now)

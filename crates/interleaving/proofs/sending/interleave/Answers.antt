@@ -1,7 +1,5 @@
 -- The causes in turn, then the bits.
-use Rattle.std.proofs.Common.{sym, ◌∙◌, ◌≤◌, length, arith}
-use native.Mathlib.Nat.{mul-le-mul_left}
-use Rattle.words.specs.Limits.{width}
+use Rattle.std.proofs.Common.{sym, ◌∙◌, length, arith}
 use Rattle.words.specs.Accepted.{matrix_answer}
 use Rattle.words.proofs.AcceptedLaws.{accepted_in}
 use Rattle.words.proofs.ShapeLaws.{every_row_of}
@@ -43,8 +41,7 @@ send_words-requires c =
     let a = c.args in
     let F = length_in a.n (length a.words.now) (length a.bits.now) (sym c.length_cause-b.ensures ∙ c.in-Done-b.is) in
     let A = accepted_in a.n a.k a.rows.now (sym c.accept-a.ensures.answer ∙ c.in-Done.is) in
-    let w : a.n ≤ width = omega (arith, A.range.places) in
-    (F.positive, rw F.long (mul-le-mul_left (length a.words.now) w))
+    (F.positive, F.long, omega (arith, A.range.places))
 
 pub returns : goal.returns
 returns c =

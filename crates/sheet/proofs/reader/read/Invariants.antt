@@ -6,6 +6,5 @@ use Rattle.sheet.proofs.reader.read.Given as goal
 abbrev pub invariant-loop-at : goal.invariant-loop-at
 invariant-loop-at l = Reads l.bytes l.contents l.at l.last
 
--- proposed from the loop's first test
 abbrev pub decreases-loop-at : goal.decreases-loop-at
 decreases-loop-at l = length l.bytes - l.at

@@ -1,10 +1,8 @@
--- Entry j becomes its sum.
-use Rattle.std.proofs.Common.{refl, arith}
-use Rattle.weights.proofs.WeightSlotLaws.{filling_step, filling_end}
+-- Each entry is what the closure gives.
+use Rattle.std.proofs.Common.{◌+◌, ◌*◌, get_or, rules}
+use Rattle.weights.proofs.WeightSlotLaws.{slots_given}
 use Rattle.weights.proofs.dual.added.Goals as goal
 
-pub loop-j-preserved : goal.loop-j-preserved
-loop-j-preserved c = filling_step c.loop-j.invariant _ c.loop-j-test.true refl
-
 pub returns : goal.returns
-returns c = filling_end c.loop-j.invariant (omega (arith, c.loop-j-test.false))
+returns c =
+    slots_given _ (λ j. get_or c.args.a.now j 0 + c.args.times * get_or c.args.b.now j 0) _ c.from_fn.result c.from_fn.ensures.items (λ x r q h e. search rules)

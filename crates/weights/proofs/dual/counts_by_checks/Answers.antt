@@ -6,7 +6,7 @@ use Rattle.walk.specs.Walked.{Walked}
 use Rattle.walk.specs.declared.walk.Walk.{Walk}
 use Rattle.walk.proofs.WalkedLaws.{walked_all}
 use Rattle.weights.specs.Inner.Overlap.{slots, ChecksOf}
-use Rattle.weights.proofs.DualCountLaws.{checks_few, walk_few, quotient_fits, sizes_are, quotients_are}
+use Rattle.weights.proofs.DualCountLaws.{checks_few, walk_few, quotient_fits, quotients_are}
 use Rattle.weights.proofs.dual.counts_by_checks.Goals as goal
 
 few : {n : ℕ} {hs : List ℕ} → ChecksOf n hs → length hs ≤ 12
@@ -23,17 +23,13 @@ pub overlap_counts-o-requires : goal.overlap_counts-o-requires
 overlap_counts-o-requires c =
     let C = c.requires in
     let W = walk _ _ _ C c.walk_all-walk.ensures.walked C.rows C.are in
-    (C.accepted.range.places.1, W.size, walk_few _ C.k C.rows C.accepted c.walk_all-walk.result W)
+    (C.accepted.range.places.1, walk_few _ C.k C.rows C.accepted c.walk_all-walk.result W)
 
 pub overflow_cast-hs : goal.overflow_cast-hs
 overflow_cast-hs c = record { fits = omega (arith, few c.requires) }
 
-pub quotients-requires-clause-even_len : goal.quotients-requires-clause-even_len
-quotients-requires-clause-even_len c =
-    let C = c.requires in
-    let W = walk _ _ _ C c.walk_all-walk.ensures.walked C.rows C.are in
-    let z = sizes_are _ C.k C.rows C.accepted c.walk_all-walk.result W c.overlap_counts-o.ensures.0 c.overlap_counts-o.ensures.1 in
-    (z.0, z.1, omega (arith, few C))
+pub quotients-requires-clause-low : goal.quotients-requires-clause-low
+quotients-requires-clause-low c = omega (arith, few c.requires)
 
 pub quotients-requires-clause-fits : goal.quotients-requires-clause-fits
 quotients-requires-clause-fits c =

@@ -1,78 +1,73 @@
 -- Each turn adds the next weight: the entries before are moved by one place, and nothing grows too large.
-use Rattle.std.proofs.Common.{◌≡◌, ◌≤◌, length, arith}
-use Rattle.words.specs.Limits.{weight_slots}
-use Rattle.weights.specs.Inner.Overlap.{Small}
-use Rattle.weights.proofs.OverlapSumLaws.{running_start, running_next, running_end, even-small, odd-small, all_small, all-le, sizes}
-use Rattle.weights.proofs.OverlapSumLaws.{kept_small, kept_long}
-use Rattle.weights.proofs.dual.overlap_counts.Goals.{In-loop-s}
+use Rattle.std.proofs.Common.{◌≡◌, ◌+◌, ◌-◌, ◌*◌, ◌≤◌, ℕ, ap, sym, subst, ◌∙◌, length, get_or, take, arith}
+use Rattle.std.proofs.lemmas.List.{length_push, length-reverse, get_or-reverse}
+use Rattle.std.proofs.lemmas.Grind.{get_or_default_zero}
+use Rattle.std.proofs.lemmas.Iterator.Adapters.{YieldsList-from_rev_slice}
+use Rattle.std.proofs.lemmas.Iterator.Consumers.{YieldsList-turn, YieldsList-end}
+use lib.Seq.{length-take-le, get_or-take}
+use Rattle.weights.specs.Inner.Overlap.{slots}
+use Rattle.weights.proofs.OverlapSumLaws.{Running, running_start, running_next, running_end, even-small, odd-small, all_small, all-le, kept_small}
+use Rattle.weights.proofs.dual.overlap_counts.Goals.{In-Some}
 use Rattle.weights.proofs.dual.overlap_counts.Goals as goal
 
--- in the loop
-within : (c : In-loop-s) → c.loop-s.s ≤ c.args.n
-within c = omega (arith, c.loop-s-test.true)
-
-even : (c : In-loop-s) → Small c.loop-s.even
-even c = even-small _ _ c.requires.2 c.requires.0 c.loop-s.invariant (within c)
-
-odd : (c : In-loop-s) → Small c.loop-s.odd
-odd c = odd-small _ _ c.requires.2 c.requires.0 c.loop-s.invariant (within c)
-
-all : (c : In-loop-s) → Small c.loop-s.all
-all c = all_small _ _ c.requires.2 c.requires.0 c.loop-s.invariant (within c)
-
-long : (c : In-loop-s) → (length c.loop-s.even ≡ weight_slots) × (length c.loop-s.odd ≡ weight_slots) × (length c.loop-s.all ≡ weight_slots)
-long c = sizes _ _ c.requires.2 c.requires.0 c.loop-s.invariant (within c)
-
-pub loop-s-init : goal.loop-s-init
-loop-s-init c = running_start _ _
-
-pub shifted-kept-requires-clause-small : goal.shifted-kept-requires-clause-small
-shifted-kept-requires-clause-small c =
-    let i = (goal.at.shifted-kept-requires-clause-small c).In-loop-s in
-    (even i, odd i)
-
-pub shifted-kept-requires-clause-a_len : goal.shifted-kept-requires-clause-a_len
-shifted-kept-requires-clause-a_len c =
-    let z = long (goal.at.shifted-kept-requires-clause-a_len c).In-loop-s in
-    (z.0, z.1)
-
-pub shifted-odd-requires-clause-small : goal.shifted-odd-requires-clause-small
-shifted-odd-requires-clause-small c =
-    let i = (goal.at.shifted-odd-requires-clause-small c).In-loop-s in
-    (odd i, even i)
-
-pub shifted-odd-requires-clause-a_len : goal.shifted-odd-requires-clause-a_len
-shifted-odd-requires-clause-a_len c =
-    let z = long (goal.at.shifted-odd-requires-clause-a_len c).In-loop-s in
-    (z.1, z.0)
-
-pub added-even-requires-clause-small : goal.added-even-requires-clause-small
-added-even-requires-clause-small c =
-    let i = within (goal.at.added-even-requires-clause-small c).In-loop-s in (
-      kept_small _ _ c.requires.2 c.requires.0 c.loop-s.invariant i c.shifted-kept.ensures,
-      c.requires.2 _,
-      all-le _ _ c.requires.2 c.requires.0 c.loop-s.invariant i,
+-- the counts are taken from that of the largest weight
+turn : (c : In-Some) → (length c.loop-count.yielded ≤ c.args.n) × (c.in-Some.count.now ≡ get_or c.args.counts.now (c.args.n - length c.loop-count.yielded) 0)
+turn c =
+    let counts = c.args.counts.now in
+    let s = length c.loop-count.yielded in
+    let (more, is) = YieldsList-turn (YieldsList-from_rev_slice (take (c.args.n + 1) counts) (cc)) c.loop-count.yielded _ c.loop-count.yielded_by _ _ c.in-Some.count c.in-Some.is c.next.ensures.steps in
+    let size : length (take (c.args.n + 1) counts) ≡ c.args.n + 1 = length-take-le (c.args.n + 1) counts (omega (arith, c.requires.0, c.told-counts)) in
+    let within : s ≤ c.args.n = omega (arith, more, length-reverse (take (c.args.n + 1) counts), size) in
+    let at : length (take (c.args.n + 1) counts) - 1 - s ≡ c.args.n - s = omega (arith, size) in (
+      within,
+      is ∙ get_or-reverse (take (c.args.n + 1) counts) s _ (omega (arith, within, size))
+          ∙ ap (λ (i : ℕ). get_or (take (c.args.n + 1) counts) i c.in-Some.count.now) at
+          ∙ get_or-take (c.args.n + 1) counts (c.args.n - s) _ (omega arith)
+          ∙ get_or_default_zero counts (c.args.n - s) _ (omega (arith, within, c.requires.0, c.told-counts)),
     )
 
-pub added-even-requires-clause-a_len : goal.added-even-requires-clause-a_len
-added-even-requires-clause-a_len c =
-    let i = (goal.at.added-even-requires-clause-a_len c).In-loop-s in
-    (kept_long _ _ c.requires.2 c.requires.0 c.loop-s.invariant (within i) c.shifted-kept.ensures, (long i).2)
+pub loop-count-init : goal.loop-count-init
+loop-count-init c = running_start _ _
 
-pub shifted-all-requires-clause-small : goal.shifted-all-requires-clause-small
-shifted-all-requires-clause-small c =
-    let i = (goal.at.shifted-all-requires-clause-small c).In-loop-s in
-    (all i, all i)
+pub shifted-kept-requires : goal.shifted-kept-requires
+shifted-kept-requires c =
+    let (in-n, _) = turn (goal.at.shifted-kept-requires c).In-Some in
+    let R = c.loop-count.invariant in
+    (even-small _ _ c.requires.1 c.requires.0 R in-n, odd-small _ _ c.requires.1 c.requires.0 R in-n)
 
-pub shifted-all-requires-clause-a_len : goal.shifted-all-requires-clause-a_len
-shifted-all-requires-clause-a_len c =
-    let z = long (goal.at.shifted-all-requires-clause-a_len c).In-loop-s in
-    (z.2, z.2)
+pub shifted-odd-requires : goal.shifted-odd-requires
+shifted-odd-requires c =
+    let (in-n, _) = turn (goal.at.shifted-odd-requires c).In-Some in
+    let R = c.loop-count.invariant in
+    (odd-small _ _ c.requires.1 c.requires.0 R in-n, even-small _ _ c.requires.1 c.requires.0 R in-n)
 
-pub loop-s-preserved : goal.loop-s-preserved
-loop-s-preserved c =
-    running_next _ _ c.requires.2 c.requires.0 c.loop-s.invariant (within (goal.at.loop-s-preserved c).In-loop-s) c.shifted-kept.ensures
-    c.shifted-odd.ensures c.added-even.ensures c.shifted-all.ensures
+pub added-even-requires : goal.added-even-requires
+added-even-requires c =
+    let (in-n, is) = turn (goal.at.added-even-requires c).In-Some in
+    let R = c.loop-count.invariant in (
+      kept_small _ _ c.requires.1 c.requires.0 R in-n c.shifted-kept.ensures,
+      omega (arith, c.from.ensures, is, c.requires.1 (c.args.n - length c.loop-count.yielded)),
+      all-le _ _ c.requires.1 c.requires.0 R in-n,
+    )
+
+pub shifted-all-requires : goal.shifted-all-requires
+shifted-all-requires c =
+    let (in-n, _) = turn (goal.at.shifted-all-requires c).In-Some in
+    let small = all_small _ _ c.requires.1 c.requires.0 c.loop-count.invariant in-n in
+    (small, small)
+
+pub loop-count-preserved : goal.loop-count-preserved
+loop-count-preserved c =
+    let (in-n, is) = turn (goal.at.loop-count-preserved c).In-Some in
+    let more = length_push c.loop-count.yielded c.in-Some.count in
+    let times = c.from.ensures ∙ is in
+    let even = c.added-even.ensures ∙ ap (λ (b : ℕ). slots (λ j. get_or c.shifted-kept.result j 0 + b * get_or c.loop-count.all j 0)) times in
+    subst (λ (s : ℕ). Running c.args.n (λ i. get_or c.args.counts.now i 0) c.added-even.result c.shifted-odd.result c.shifted-all.result s) (sym more)
+    (running_next _ _ c.requires.1 c.requires.0 c.loop-count.invariant in-n c.shifted-kept.ensures c.shifted-odd.ensures even c.shifted-all.ensures)
 
 pub returns : goal.returns
-returns c = running_end _ _ c.loop-s.invariant c.loop-s-test.false
+returns c =
+    let counts = c.args.counts.now in
+    let (_, all) = YieldsList-end (YieldsList-from_rev_slice (take (c.args.n + 1) counts) (cc)) c.loop-count.yielded _ c.loop-count.yielded_by _ _ c.in-None.is c.next.ensures.steps in
+    running_end _ _ c.loop-count.invariant
+    (omega (arith, all, length-reverse (take (c.args.n + 1) counts), length-take-le (c.args.n + 1) counts (omega (arith, c.requires.0, c.told-counts))))
