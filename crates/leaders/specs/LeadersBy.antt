@@ -1,5 +1,5 @@
 -- 01, part 4, and 02, No. 4, for any parity-check rows: the list of the leaders that words fill in their order, and how many are tried.
-use Rattle.std.specs.Prelude.{◌≡◌, List, ◌++◌, Bool, true, cond, ◌&&◌, ℕ, suc, ◌-◌, ◌^◌, leb, length, take, drop}
+use Rattle.std.specs.Prelude.{◌≡◌, List, ◌++◌, Bool, true, cond, ◌&&◌, ℕ, suc, ◌-◌, ◌^◌, ◌≤◌, leb, length, take, drop, Option, Some, None, IfSome, is_some}
 use Rattle.coding.specs.Lists.{padded}
 use Rattle.coding.specs.Check.{checks, syndrome}
 use Rattle.coding.specs.Order.{order, fills, blanks}
@@ -22,12 +22,13 @@ abbrev pub leaders_fit : ℕ → ℕ → ℕ → Bool
 leaders_fit n c room = leb n width && leb c max_checks && leb (2 ^ c) room
 
 -- by the first c of the check rows hs: where there is room the first 2 ^ c entries are so filled, and every later slot, and else every
--- slot, is as it was; r is the number of words tried, the zero word at least, and 0 where there is no room. By the check rows of an
+-- slot, is as it was; r is the number of words tried, the zero word at least, and nothing where there is no room. By the check rows of an
 -- accepted matrix they are its leaders, and r is the number of words tried for these
-pub record LeadersBy (hs : List ℕ) (n c : ℕ) (before : List ℕ) (r : ℕ) (after : List ℕ) : Type 0 where
-  pub tries : r ≡ cond (leaders_fit n c (length before)) (tried_by (take c hs) n c) 0
-  pub room : leb 1 r ≡ leaders_fit n c (length before)
+pub record LeadersBy (hs : List ℕ) (n c : ℕ) (before : List ℕ) (r : Option ℕ) (after : List ℕ) : Type 0 where
+  pub tries : r ≡ cond (leaders_fit n c (length before)) (Some (tried_by (take c hs) n c)) None
+  pub room : is_some r ≡ leaders_fit n c (length before)
+  pub zero_word : IfSome r (λ tries. 1 ≤ tries)
   pub list : after ≡ cond (leaders_fit n c (length before)) (filled_by (take c hs) n c ++ drop (2 ^ c) before) before
   pub of_matrix : (k : ℕ) (rows : List ℕ) → Accepted n k rows → c ≡ n - k → hs ≡ padded max_checks (checks n rows)
       → leaders_fit n c (length before) ≡ true
-      → (after ≡ leaders_list n k rows ++ drop (2 ^ (n - k)) before) × (r ≡ leaders_tried n k rows)
+      → (after ≡ leaders_list n k rows ++ drop (2 ^ (n - k)) before) × (r ≡ Some (leaders_tried n k rows))

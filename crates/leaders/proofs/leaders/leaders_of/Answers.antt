@@ -1,38 +1,56 @@
 -- Causes 1 to 4, and 9 by the room for the leaders.
-use Rattle.std.proofs.Common.{refl, sym, ◌∙◌, length}
+use Rattle.std.proofs.Common.{◌≡◌, refl, sym, ap, ◌∙◌, ℕ, List, length}
+use Rattle.std.specs.Prelude.{Option, Some, None, Result, Ok, Err}
+use Rattle.std.specs.Option.{ok_or}
+use Rattle.answers.specs.Refusal.{answer_of}
+use Rattle.answers.specs.declared.answer.Refusal.{Refusal}
+use Rattle.answers.proofs.AnswerLaws.{handed_on, answer_of-answered, answered_ok, answered_err}
+use Rattle.words.specs.Accepted.{matrix_answer}
+use Rattle.words.specs.Widest.{EveryRow}
 use Rattle.words.proofs.ShapeLaws.{every_row_of}
 use Rattle.words.proofs.AcceptedLaws.{accepted_in}
-use Rattle.parity.proofs.CodeOfLaws.{checks_of_lem, checks_done}
+use Rattle.parity.specs.ParityChecks.{ParityChecksOf}
 use Rattle.leaders.proofs.LeaderPromiseLaws.{matrix_refuses, work_refuses, work_short, work_done, list_kept}
 use Rattle.leaders.proofs.LeaderPromiseLaws.{leaders_stand, leaders_refused, leaders_written}
 use Rattle.leaders.proofs.leaders.leaders_of.Goals as goal
 
-pub returns-in_default : goal.returns-in_default
-returns-in_default c =
-    let a = c.args in
-    let p = c.parity_checks-c.ensures in
-    let z = c.refused.ensures in
-    let e = c.in_default.is in
-    leaders_refused a.n a.k a.rows.now (every_row_of _ _ p.answer p.every_row) a.list.now _ refl _ _ (z.0 ∙ e) (z.1, z.2)
-    (matrix_refuses a.n a.k a.rows.now (length a.list.now) _ (sym p.answer ∙ e))
+every_row : (n k : ℕ) (rows : List ℕ) (r : Result (List ℕ) Refusal) → ParityChecksOf n k rows r → EveryRow n (matrix_answer n k rows)
+every_row n k rows r P = every_row_of (answer_of r) _ (ap answer_of P.is ∙ answer_of-answered (matrix_answer n k rows) _) P.every_row
 
-pub returns-then-tried-eq0 : goal.returns-then-tried-eq0
-returns-then-tried-eq0 c =
-    let a = c.args in
-    let p = c.parity_checks-c.ensures in
-    let A = accepted_in a.n a.k a.rows.now (sym p.answer ∙ c.in-Done.is) in
-    let f = c.fill_leaders-tried.ensures in
-    let d = c.if-tried-eq0.true in
-    let z = c.refused-then-tried-eq0.ensures in
-    leaders_refused a.n a.k a.rows.now (every_row_of _ _ p.answer p.every_row) a.list.now _ (list_kept f d) _ _ z.0 (z.1, z.2)
-    (work_refuses a.n a.k a.rows.now (length a.list.now) A (work_short a.n a.k a.rows.now A f d))
+pub returns-in_err-checks : goal.returns-in_err-checks
+returns-in_err-checks c =
+    let m = c.args.matrix.now in
+    let P = c.parity_checks.ensures in
+    leaders_refused m.n m.k m.rows.now (every_row m.n m.k m.rows.now _ P) c.args.list.now _ refl _
+    (matrix_refuses m.n m.k m.rows.now (length c.args.list.now) _ (answered_err _ _ _ (sym c.in_err-checks.was ∙ P.is))) _ (handed_on _ _ c.from_residual.ensures)
+
+-- whether there was room
+no_tries : (r : Option ℕ) (e c : Refusal) → Err c ≡ ok_or r e → (r ≡ None) × (c ≡ e)
+no_tries None e c q = (refl, cc)
+no_tries (Some x) e c q = absurd cc
+
+some_tries : (r : Option ℕ) (e : Refusal) (x : ℕ) → Ok x ≡ ok_or r e → r ≡ Some x
+some_tries None e x q = absurd cc
+some_tries (Some y) e x q = cc
+
+pub returns-in_err-tried : goal.returns-in_err-tried
+returns-in_err-tried c =
+    let m = c.args.matrix.now in
+    let P = c.parity_checks.ensures in
+    let L = c.fill_leaders.ensures in
+    let A = accepted_in m.n m.k m.rows.now (answered_ok _ _ _ (sym c.in_ok-checks.was ∙ P.is)).0 in
+    let (none, short) = no_tries _ _ _ (sym c.in_err-tried.was ∙ c.ok_or.ensures.value) in
+    leaders_refused m.n m.k m.rows.now (every_row m.n m.k m.rows.now _ P) c.args.list.now _ (list_kept L none) _
+    (work_refuses m.n m.k m.rows.now (length c.args.list.now) A (work_short m.n m.k m.rows.now A L none)) _
+    (handed_on _ _ c.from_residual-in_err-tried.ensures ∙ ap Err short)
 
 pub returns : goal.returns
 returns c =
-    let a = c.args in
-    let p = c.parity_checks-c.ensures in
-    let A = accepted_in a.n a.k a.rows.now (sym p.answer ∙ c.in-Done.is) in
-    let f = c.fill_leaders-tried.ensures in
-    let d = c.if-tried-eq0.false in
-    leaders_written a.n a.k a.rows.now A a.list.now _ refl (work_done a.n a.k a.rows.now A f d) (checks_done p c.in-Done.is) _
-    (leaders_stand a.n a.k a.rows.now A f d (checks_of_lem p c.in-Done.is))
+    let m = c.args.matrix.now in
+    let P = c.parity_checks.ensures in
+    let L = c.fill_leaders.ensures in
+    let (d, e) = answered_ok _ _ _ (sym c.in_ok-checks.was ∙ P.is) in
+    let A = accepted_in m.n m.k m.rows.now d in
+    let s = some_tries _ _ _ (sym c.in_ok-tried.was ∙ c.ok_or.ensures.value) in
+    leaders_written m.n m.k m.rows.now A c.args.list.now (work_done m.n m.k m.rows.now A L s) (rw c.in_ok-checks.was at P) e _
+    (leaders_stand m.n m.k m.rows.now A L s e)
