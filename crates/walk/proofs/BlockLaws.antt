@@ -1,16 +1,15 @@
 -- Laws of one block of the walk: its words are counted, the smallest of those of the least weight is found, and the walk has gone on
--- over the block. Assumes nothing.
+-- over the block.
 use mathlib.Core.Path.{◌≡◌, refl, sym, ap, ap₂, ◌∙◌}
 use mathlib.Core.Logic.{◌≢◌, ◌⊎◌, inl, inr, ⊎_elim}
 use mathlib.Core.List.{List, map}
-use mathlib.Core.Bool.{Bool, true, false, not, cond}
+use mathlib.Core.Bool.{Bool, not}
 use Prim.Native.Nat.{ℕ, zero, suc, ◌+◌, ◌-◌, ◌≤◌, ◌<◌, ◌^◌, min}
-use native.Mathlib.Nat.{le_refl, le_trans, min-le_left, min-le_right, add-zero}
-use native.Mathlib.Decide.{ℕ_discrete, dec_le}
+use native.Mathlib.Nat.{le_refl, le_trans, min-le_left, min-le_right}
+use native.Mathlib.Decide.{dec_le}
 use native.Mathlib.Omega.{arith}
 use lib.Dec.{eqb}
-use lib.ListN.{length, get_or, set, length-set, length-map}
-use lib.Seq.{get_or-set_same, get_or-set_other}
+use lib.ListN.{length, get_or, length-map}
 use lib.Bits.{xor_lt}
 use lib.Count.{ones-le}
 use borrow.Author.Count.{below_more}
@@ -21,7 +20,7 @@ use Rattle.coding.specs.Matrix.{encode}
 use Rattle.coding.specs.Weight.{count}
 use Rattle.coding.proofs.ListLaws.{get_d_map}
 use Rattle.coding.proofs.SearchLaws.{first_is, first-le, first_hit, first-before}
-use Rattle.coding.proofs.CountLaws.{count_step, count_same, count_add, count-le, count_some, count-found}
+use Rattle.coding.proofs.CountLaws.{count_same, count_add, count-le, count_some, count-found}
 use Rattle.walk.specs.Walked.{least_of, SmallestOf, Walked}
 use Rattle.walk.specs.Inner.Block.{Tallied, BlockWalked}
 use Rattle.walk.specs.declared.walk.Walk.{Walk}
@@ -49,10 +48,6 @@ pub record Tallying (weights counts₀ : List ℕ) (i : ℕ) (counts : List ℕ)
   pub size : length counts ≡ 33
   pub grown : (j : ℕ) → get_or counts j 0 ≡ get_or counts₀ j 0 + count (λ k. eqb (get_or weights k 0) j) i
 
-pub tally_start : {weights counts : List ℕ} → length counts ≡ 33 → ((k : ℕ) → k < length weights → get_or weights k 0 < 33)
-    → ((j : ℕ) → get_or counts j 0 + length weights < 2 ^ 32) → Tallying weights counts 0 counts
-tally_start {counts = counts} e f g = record { light = f; room = g; upto = omega arith; size = e; grown = λ j. sym (add-zero (get_or counts j 0)) }
-
 module _ {ws counts₀ : List ℕ} {i : ℕ} {counts : List ℕ} (T : Tallying ws counts₀ i counts) where
   module _ (h : i < length ws) where
     pub tally_fits : get_or counts (get_or ws i 0) 0 + 1 < 2 ^ 32
@@ -60,41 +55,7 @@ module _ {ws counts₀ : List ℕ} {i : ℕ} {counts : List ℕ} (T : Tallying w
         let w = get_or ws i 0 in
         omega (arith, T.grown w, T.room w, count-le (λ k. eqb (get_or ws k 0) w) i)
 
-    -- the count of word i's weight grows by one, the others stay
-    pub tally_step : Tallying ws counts₀ (i + 1) (set counts (get_or ws i 0) (get_or counts (get_or ws i 0) 0 + 1))
-    tally_step = record {
-      light = T.light;
-      room = T.room;
-      upto = omega arith;
-      size = length-set counts (get_or ws i 0) _ ∙ T.size;
-      grown = λ j. go j (ℕ_discrete j (get_or ws i 0));
-    }
-      where
-        new : ℕ
-        new = get_or counts (get_or ws i 0) 0 + 1
-
-        one_more : (j : ℕ) (b : Bool) → eqb (get_or ws i 0) j ≡ b
-            → count (λ k. eqb (get_or ws k 0) j) (i + 1) ≡ count (λ k. eqb (get_or ws k 0) j) i + cond b 1 0
-        one_more j b e = count_step (λ k. eqb (get_or ws k 0) j) i ∙ ap (λ (b : Bool). count (λ k. eqb (get_or ws k 0) j) i + cond b 1 0) e
-
-        go : (j : ℕ) → Dec (j ≡ get_or ws i 0)
-            → get_or (set counts (get_or ws i 0) new) j 0 ≡ get_or counts₀ j 0 + count (λ k. eqb (get_or ws k 0) j) (i + 1)
-        go j (yes e) =
-            let t : get_or (set counts (get_or ws i 0) new) j 0 ≡ get_or counts j 0 + 1
-            = ap (λ (x : ℕ). get_or (set counts (get_or ws i 0) new) x 0) e
-            ∙ get_or-set_same counts (get_or ws i 0) new 0 (rw T.size (T.light i h)) ∙ ap (λ (x : ℕ). get_or counts x 0 + 1) (sym e) in
-            omega (arith, one_more j true (eq-eqb (get_or ws i 0) j (sym e)), t, T.grown j)
-        go j (no ne) =
-            omega
-            (arith, one_more j false (ne_eqb (get_or ws i 0) j (λ e. ne (sym e))), get_or-set_other counts (get_or ws i 0) j new 0 ne, T.grown j)
-
-  pub tally_end : length ws ≤ i → Tallied ws counts₀ counts
-  tally_end h = let e : i ≡ length ws = omega (arith, T.upto) in record { size = T.size; grown = λ j. rw e at (T.grown j) }
-
 -- ---- the smallest of a block's words of one weight, one word after the other
-
-pub smallest_start : (block : List ℕ) (base : ℕ) (ws : List ℕ) (w : ℕ) → SmallestOf block base ws w 0 (2 ^ 32 - 1)
-smallest_start block base ws w = record { each = λ i h. absurd (omega arith); one = inl refl }
 
 module _ {block : List ℕ} {base : ℕ} {ws : List ℕ} {w m r : ℕ} (S : SmallestOf block base ws w m r) where
   -- one word more is looked at; x is no larger than the one found, nor than this one where it has the weight
@@ -113,6 +74,14 @@ module _ {block : List ℕ} {base : ℕ} {ws : List ℕ} {w m r : ℕ} (S : Smal
     each = each_to (get_or block m 0 ⊕ base) (omega arith) (λ _. le_refl (get_or block m 0 ⊕ base));
     one = inr (m, omega arith, q, refl);
   }
+
+  -- of the word met and the smallest before it the smaller is held
+  pub smallest_met : {y : ℕ} → get_or ws m 0 ≡ w → y ≡ min r (get_or block m 0 ⊕ base) → SmallestOf block base ws w (m + 1) y
+  smallest_met {y} q e = go (dec_le r (get_or block m 0 ⊕ base))
+    where
+      go : Dec (r ≤ get_or block m 0 ⊕ base) → SmallestOf block base ws w (m + 1) y
+      go (yes h) = let is : y ≡ r = omega arith in rw is (smallest_keep (λ _. h))
+      go (no h) = let is : y ≡ get_or block m 0 ⊕ base = omega arith in rw is (smallest_take q (omega arith))
 
 -- ---- a block has been tallied
 

@@ -1,4 +1,4 @@
--- Laws of the walk over the codewords, block by block. Assumes nothing.
+-- Laws of the walk over the codewords, block by block.
 use mathlib.Core.Path.{◌≡◌, refl, sym, ap, ap₂, ◌∙◌}
 use mathlib.Core.List.{List, ◌++◌}
 use Prim.Native.Nat.{ℕ, suc, ◌+◌, ◌-◌, ◌≤◌, ◌<◌, ◌^◌, ◌*◌, ◌%◌}
@@ -6,9 +6,9 @@ use native.Mathlib.Nat.{mul-le-mul_right, mul_comm, add-mul, one-mul, zero-mul}
 use native.Mathlib.Decide.{dec_le}
 use native.Mathlib.Omega.{arith}
 use lib.Dec.{eqb}
-use lib.ListN.{length, get_or, take, drop, length-append, length-drop, take-append-drop}
+use lib.ListN.{length, get_or, take, drop, length-drop, take-append-drop}
 use lib.ListN.{get_or-replicate, get_or-eq_default}
-use lib.Seq.{length-take-le, take_all}
+use lib.Seq.{take_all}
 use lib.Pow.{pow-add, pow_mono}
 use Rattle.coding.specs.Lists.{zeros, tabulate}
 use Rattle.coding.specs.Word.{◌⊕◌, weight}
@@ -116,20 +116,3 @@ size_fits b h = rw (shl_one b 64 (omega arith)) (pow_mono {i = b} {j = 8} h)
 pub parts_whole : (rows : List ℕ) (b : ℕ) → b ≤ length rows → take b rows ++ take (length rows - b) (drop b rows) ≡ rows
 parts_whole rows b h =
     ap (λ (l : List ℕ). take b rows ++ l) (take_all (length rows - b) (drop b rows) (simp length-drop (omega arith))) ∙ take-append-drop b rows
-
-module _ (rows : List ℕ) (b : ℕ) (h : b ≤ length rows) (k : b ≤ 8) (small : length rows < 32) where
-  parts_long : length (take b rows) + length (take (length rows - b) (drop b rows)) ≡ length rows
-  parts_long = sym (length-append (take b rows) (take (length rows - b) (drop b rows))) ∙ ap length (parts_whole rows b h)
-
-  pub parts_fit : (A B : List ℕ) → length A ≡ 256 → length B ≡ 256
-      → ((length (take ((1 * 2 ^ b) % 2 ^ 64) A) ≡ 2 ^ length (take b rows)) × (length (take ((1 * 2 ^ b) % 2 ^ 64) A) ≤ 256)
-      × (length (take ((1 * 2 ^ b) % 2 ^ 64) B) ≡ length (take ((1 * 2 ^ b) % 2 ^ 64) A)))
-      × (length (take b rows) + length (take (length rows - b) (drop b rows)) < 32)
-  parts_fit A B ea eb =
-      let size = (1 * 2 ^ b) % 2 ^ 64 in
-      let room : (1 * 2 ^ b) % 2 ^ 64 ≤ 256 = size_fits b k in
-      let la : length (take size A) ≡ size = length-take-le size A (omega arith) in
-      let lb : length (take size B) ≡ size = length-take-le size B (omega arith) in (
-        (la ∙ shl_one b 64 (omega arith) ∙ ap (λ (x : ℕ). 2 ^ x) (sym (length-take-le b rows h)), omega arith, lb ∙ sym la),
-        omega (arith, parts_long),
-      )

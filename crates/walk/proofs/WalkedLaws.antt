@@ -1,5 +1,5 @@
 -- Laws of a finished walk over an accepted matrix: its counts are the weight counts, its least weight is the minimum distance, and the
--- word it holds is the lightest codeword. Assumes nothing.
+-- word it holds is the lightest codeword.
 use mathlib.Core.Path.{◌≡◌, refl, sym, ap, ◌∙◌}
 use mathlib.Core.Logic.{◌≢◌}
 use mathlib.Core.List.{List}

@@ -8,7 +8,6 @@ ghost use Rattle.walk.specs.Inner.Block.{Tallied, BlockWalked};
 
 use sums::{fill_sums, row_sum};
 use words::limits::{MAX_ROWS, WEIGHT_SLOTS};
-use words::lists::{entry_at, smaller};
 use words::word::distance;
 
 // The rows of a block, and its codewords.
@@ -35,10 +34,8 @@ fn weigh(block: &[u32], base: u32, weights: &mut [u32])
     requires { length weights.old ≡ length block.now }
     ensures { weights.new ≡ map (λ b. distance b base) block.now }
 {
-    let mut j: usize = 0;
-    while j < weights.len() {
-        weights[j] = distance(block[j], base);
-        j += 1;
+    for (j, weight) in weights.iter_mut().enumerate() {
+        *weight = distance(block[j], base);
     }
 }
 
@@ -48,7 +45,7 @@ pub fn block_weights(block: &[u32], base: u32, weights: &mut [u32])
         ≡ map (λ b. distance b base) (take (length weights.old) block.now)
         ++ drop (length block.now) weights.old }
 {
-    let m = smaller(block.len(), weights.len());
+    let m = block.len().min(weights.len());
     weigh(&block[..m], base, &mut weights[..m]);
 }
 
@@ -59,11 +56,8 @@ fn tally(weights: &[u32], counts: &mut [u32; WEIGHT_SLOTS])
     requires room { (j : ℕ) → get_or counts.old j 0 + length weights.now < 2 ^ 32 }
     ensures { Tallied weights.now counts.old counts.new }
 {
-    let mut i: usize = 0;
-    while i < weights.len() {
-        let w = weights[i] as usize;
-        counts[w] = counts[w] + 1;
-        i += 1;
+    for &w in weights {
+        counts[w as usize] += 1;
     }
 }
 
@@ -71,14 +65,12 @@ fn tally(weights: &[u32], counts: &mut [u32; WEIGHT_SLOTS])
 pub fn least_of(counts: &[u32]) -> u32
     ensures { result ≡ least_of counts.now }
 {
-    let mut j: usize = 1;
-    while j < WEIGHT_SLOTS {
-        if entry_at(counts, j) != 0 {
+    for j in 1..WEIGHT_SLOTS {
+        if counts.get(j).copied().unwrap_or(0) != 0 {
             return j as u32;
         }
-        j += 1;
     }
-    j as u32
+    NO_WEIGHT
 }
 
 // The smallest of the block's words of weight w, each with base added, as far as weights are given; no word where there is none.
@@ -86,17 +78,11 @@ pub fn smallest_of(block: &[u32], base: u32, weights: &[u32], w: u32) -> u32
     ensures { SmallestOf block.now base weights.now w
         (min (length block.now) (length weights.now)) result }
 {
-    let m = smaller(block.len(), weights.len());
     let mut best = NO_WORD;
-    let mut i: usize = 0;
-    while i < m {
-        if weights[i] == w {
-            let x = block[i] ^ base;
-            if x < best {
-                best = x;
-            }
+    for (&x, &v) in block.iter().zip(weights) {
+        if v == w {
+            best = best.min(x ^ base);
         }
-        i += 1;
     }
     best
 }
@@ -105,10 +91,7 @@ pub fn smallest_of(block: &[u32], base: u32, weights: &[u32], w: u32) -> u32
 fn kept(w: u32, x: u32, least: u32, y: u32) -> u32
     ensures { (least < w → result ≡ y) × (w ≤ least → result ≡ min x y) }
 {
-    if least < w {
-        return y;
-    }
-    if y < x { y } else { x }
+    if least < w { y } else { x.min(y) }
 }
 
 // The walk goes on over the block with base added; the second list is room for its weights.
@@ -152,11 +135,9 @@ fn walk_blocks(front: &[u32], others: &[u32], block: &mut [u32], weights: &mut [
         least: NO_WEIGHT,
         lightest: 0,
     };
-    let mut h: u32 = 0;
-    while h < end {
+    for h in 0..end {
         let base = row_sum(others, h);
         walk = walk_block(block, base, weights, walk);
-        h += 1;
     }
     walk
 }
@@ -165,7 +146,7 @@ fn walk_blocks(front: &[u32], others: &[u32], block: &mut [u32], weights: &mut [
 pub fn block_rows(k: usize) -> usize
     ensures { result ≡ min k 8 }
 {
-    smaller(k, BLOCK_ROWS)
+    k.min(BLOCK_ROWS)
 }
 
 // The walk over all codewords of so few rows.
@@ -190,7 +171,7 @@ pub fn walk_all(rows: &[u32]) -> Walk
     ensures walked { Walked (take max_rows rows.now) (2 ^ length (take max_rows rows.now)) result }
     ensures lightest_value { weight_slots ≤ result.least → result.lightest ≡ 0 }
 {
-    let m = smaller(MAX_ROWS, rows.len());
+    let m = rows.len().min(MAX_ROWS);
     let walk = walk_few(&rows[..m]);
     if walk.least < NO_WEIGHT {
         return walk;

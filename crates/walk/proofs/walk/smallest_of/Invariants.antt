@@ -1,11 +1,7 @@
--- best is the smallest of the words before i that have the weight.
-use Rattle.std.proofs.Common.{◌-◌, ◌≤◌}
+-- The smallest of the words so far that have the weight.
+use Rattle.std.proofs.Common.{length}
 use Rattle.walk.specs.Walked.{SmallestOf}
 use Rattle.walk.proofs.walk.smallest_of.Given as goal
 
-abbrev pub invariant-loop-i : goal.invariant-loop-i
-invariant-loop-i l = (l.i ≤ l.m) × SmallestOf l.block l.base l.weights l.w l.i l.best
-
--- proposed from the loop's first test
-abbrev pub decreases-loop-i : goal.decreases-loop-i
-decreases-loop-i l = l.m - l.i
+abbrev pub invariant-loop-x : goal.invariant-loop-x
+invariant-loop-x l = SmallestOf l.block l.base l.weights l.w (length l.yielded) l.best

@@ -7,9 +7,9 @@ use Rattle.walk.proofs.walk.walk_all.Goals as goal
 pub returns-then-walk-lt-NO_WEIGHT-clause-walked :
     goal.returns-then-walk-lt-NO_WEIGHT-clause-walked
 returns-then-walk-lt-NO_WEIGHT-clause-walked c =
-    rw (take_most c.args.rows.now max_rows c.smaller-m.result c.smaller-m.ensures) at c.walk_few-walk.ensures
+    rw (take_most c.args.rows.now max_rows c.min-m.result (omega (arith, c.min-m.ensures))) at c.walk_few-walk.ensures
 
 pub returns-clause-walked : goal.returns-clause-walked
 returns-clause-walked c =
-    let W = rw (take_most c.args.rows.now max_rows c.smaller-m.result c.smaller-m.ensures) at c.walk_few-walk.ensures in
+    let W = rw (take_most c.args.rows.now max_rows c.min-m.result (omega (arith, c.min-m.ensures))) at c.walk_few-walk.ensures in
     record { size = W.size; counts = W.counts; least = W.least; lightest = λ h. absurd (omega (arith, h)) }

@@ -6,8 +6,6 @@ use Rattle.walk.proofs.walk.weigh.Goals as goal
 
 pub loop-j-preserved : goal.loop-j-preserved
 loop-j-preserved c =
-    let O = c.loop-j.invariant.1 in (
-      omega (arith, O.long, c.loop-j-test.true),
-      over-map_step (λ b. distance b c.args.base) c.args.block.now O _ (omega (arith, c.requires, O.long)) (omega (arith, O.long))
-          c.distance.ensures,
-    )
+    let O = c.loop-j.invariant in
+    over-map_step (λ b. distance b c.args.base) c.args.block.now O _ (omega (arith, c.requires, O.long)) (omega (arith, O.long))
+    c.distance.ensures
