@@ -22,7 +22,6 @@ use Rattle.words.proofs.AcceptedLaws.{accepted_in}
 use Rattle.words.proofs.CodeLaws.{frees_are, distance_is}
 use Rattle.parity.specs.ParityChecks.{CodeOf}
 use Rattle.parity.specs.declared.check.Code.{Code}
-use Rattle.linear.specs.ReducedRows.{ReducedRowsOf}
 use Rattle.weights.specs.Description.{weights, WeightsOf, DescriptionOf}
 use Rattle.weights.specs.declared.weights.Weights.{Weights}
 use Rattle.weights.specs.declared.description.Description.{Description}

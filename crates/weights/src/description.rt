@@ -5,6 +5,7 @@ use crate::dual::walk_code;
 use crate::weights::Weights;
 use answers::Refusal;
 use parity::code_of;
+use walk::Walk;
 use words::limits::{MAX_CHECKS, MAX_ROWS};
 use words::shape::Matrix;
 
@@ -21,7 +22,11 @@ pub fn describe(matrix: &Matrix) -> Result<Description, Refusal>
     ensures { DescriptionOf matrix.now.n matrix.now.k matrix.now.rows.now result }
 {
     let c = code_of(matrix)?;
-    let walk = walk_code(
+    let Walk {
+        counts,
+        least,
+        lightest,
+    } = walk_code(
         matrix,
         &c.rows[..matrix.k as usize],
         &c.checks[..matrix.check_count()],
@@ -30,9 +35,9 @@ pub fn describe(matrix: &Matrix) -> Result<Description, Refusal>
         rows: c.rows,
         checks: c.checks,
         weights: Weights {
-            dmin: walk.least,
-            counts: walk.counts,
-            lightest: walk.lightest,
+            dmin: least,
+            counts,
+            lightest,
         },
     })
 }

@@ -12,7 +12,6 @@ use Rattle.words.proofs.CodeLaws.{rows_are}
 use Rattle.answers.proofs.AnswerLaws.{handed_on, err_answered, answered_err, ok_answered, answered_ok}
 use Rattle.parity.specs.declared.check.Code.{Code}
 use Rattle.walk.proofs.WalkedLaws.{counts_are, least_is, lightest_is}
-use Rattle.weights.specs.Description.{weights}
 use Rattle.weights.specs.declared.weights.Weights.{Weights}
 use Rattle.weights.specs.Inner.Overlap.{CodeParts}
 use Rattle.weights.proofs.DescribeLaws.{description_lem}
@@ -31,13 +30,29 @@ parts n k rows first second A f s =
       checks_are = ap (take (n - k)) s ∙ take_at (checks n rows) _ (n - k) count;
     }
 
+same_weights : {a b : ℕ} {c d : List ℕ} {e f : ℕ} → a ≡ b → c ≡ d → e ≡ f
+    → ◌≡◌ {A = Weights} (record { dmin = a; counts = c; lightest = e }) (record { dmin = b; counts = d; lightest = f })
+same_weights p q r = λ i. record { dmin = p i; counts = q i; lightest = r i }
+
 pub returns-in_err-c : goal.returns-in_err-c
 returns-in_err-c c =
     let e = answered_err _ _ _ (sym c.in_err-c.was ∙ c.code_of.ensures.is) in
     description_lem c.code_of.ensures _ (handed_on _ _ c.from_residual.ensures ∙ err_answered _ _ _ e)
 
-pub walk_code-walk-requires : goal.walk_code-walk-requires
-walk_code-walk-requires c = ?
+pub walk_code-least-requires : goal.walk_code-least-requires
+walk_code-least-requires c =
+    let m = c.args.matrix.now in
+    let (d, x) = answered_ok (matrix_answer m.n m.k m.rows.now) _ _ (sym c.in_ok-c.was ∙ c.code_of.ensures.is) in
+    rw c.check_count.ensures
+    (parts m.n m.k m.rows.now _ _ (accepted_in _ _ _ d) (ap (λ (y : Code). y.rows) x) (ap (λ (y : Code). y.checks) x))
 
 pub returns : goal.returns
-returns c = ?
+returns c =
+    let m = c.args.matrix.now in
+    let (d, x) = answered_ok (matrix_answer m.n m.k m.rows.now) _ _ (sym c.in_ok-c.was ∙ c.code_of.ensures.is) in
+    let A = accepted_in m.n m.k m.rows.now d in
+    let w = c.walk_code-least.result in
+    let W = c.walk_code-least.ensures in
+    let found = same_weights (least_is m.n m.k m.rows.now A w W) (counts_are m.n m.k m.rows.now A w W) (lightest_is m.n m.k m.rows.now A w W) in
+    description_lem c.code_of.ensures _
+    (ap₂ (λ (y : Code) (z : Weights). Ok (record { rows = y.rows; checks = y.checks; weights = z })) x found ∙ ok_answered _ _ d)
