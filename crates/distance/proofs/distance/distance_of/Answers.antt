@@ -1,5 +1,5 @@
 -- What the code gives, and the search over its reduced rows.
-use Rattle.std.proofs.Common.{◌≡◌, sym, ap, ap₂, ◌∙◌, ℕ, List, length, take}
+use Rattle.std.proofs.Common.{◌≡◌, sym, ap, ap₂, ◌∙◌, ℕ, List, take}
 use Rattle.std.proofs.Math.Seq.{take_at}
 use Rattle.std.specs.Prelude.{Result, Ok}
 use Rattle.coding.specs.Lists.{padded}
