@@ -3,10 +3,9 @@ use Rattle.std.specs.Prelude.{◌≡◌, List, map, ℕ, ◌^◌, ◌<◌, lengt
 use Rattle.coding.specs.Word.{bit, parity}
 use Rattle.coding.specs.Matrix.{encode, message_of}
 use Rattle.coding.specs.Check.{column}
-use Rattle.answers.specs.Refusal.{and_then, on_done}
+use Rattle.answers.specs.Refusal.{Answer, and_then, on_done}
 use Rattle.words.specs.Widest.{EveryRow}
 use Rattle.words.specs.Lists.{list_answer}
-use Rattle.answers.specs.declared.answer.Answer.{Answer}
 use Rattle.words.specs.Accepted.{matrix_answer, Accepted}
 
 -- causes 1 to 4 and 6 to 8

@@ -1,49 +1,36 @@
 // Message: codewords are read back to the messages of the matrix as given.
-ghost use Rattle.std.specs.Prelude.{◌≡◌, not, eqb, ◌≤◌, length, get_or, take};
-ghost use Rattle.coding.specs.Lists.{first};
+ghost use Rattle.std.specs.Prelude.{◌≡◌, map, ◌≤◌, length, take};
 ghost use Rattle.coding.specs.Check.{syndrome};
 ghost use Rattle.words.specs.Limits.{max_words};
+ghost use Rattle.words.specs.Shape.{some_outside};
 ghost use Rattle.encoder.specs.MessagesRead.{MessagesRead};
 
-use answers::{Answer, Refusal};
+use answers::Refusal;
 use parity::{code_of, syndromes};
 use sums::row_sums;
 use words::limits::{MAX_CHECKS, MAX_WORDS};
 use words::lists::list_cause;
-use words::shape::first_outside;
+use words::shape::{Matrix, first_outside};
 
-// The first word whose syndrome by the first c check rows is not 0, or the number of words where there is none. The syndromes stand in a
-// list of their own.
-fn first_other(checks: &[u32; MAX_CHECKS], c: usize, words: &[u32]) -> usize
+// The first word whose syndrome by the first c check rows is not 0, if there is one. The syndromes stand in a list of their own.
+fn first_other(checks: &[u32; MAX_CHECKS], c: usize, words: &[u32]) -> Option<usize>
     requires { length words.now ≤ max_words }
-    ensures { result
-        ≡ first (λ i. not (eqb (syndrome (take c checks.now) (get_or words.now i 0)) 0)) (length words.now) }
+    ensures { result ≡ some_outside 0 (map (syndrome (take c checks.now)) words.now) }
 {
     let mut list = [0u32; MAX_WORDS];
     syndromes(checks, c, words, &mut list);
-    let m = words.len();
-    first_outside(&list[..m], 0)
+    first_outside(&list[..words.len()], 0)
 }
 
 // Writes the message of each codeword.
-pub fn message(n: u32, k: u32, rows: &[u32], words: &[u32], out: &mut [u32]) -> Answer
-    ensures { MessagesRead n k rows.now words.now out.old result out.new }
+pub fn message(matrix: &Matrix, words: &[u32], out: &mut [u32]) -> Result<(), Refusal>
+    ensures { MessagesRead matrix.now.n matrix.now.k matrix.now.rows.now words.now out.old result out.new }
 {
-    let c = code_of(n, k, rows);
-    let a = c.answer;
-    let Answer::Done = a else {
-        return a;
-    };
-    let b = list_cause(words, n, out.len());
-    let Answer::Done = b else {
-        return b;
-    };
-    let checks = c.checks;
-    let bad = first_other(&checks, (n - k) as usize, words);
-    if bad != words.len() {
-        return Answer::Refused(Refusal::NoCodeword(bad));
+    let code = code_of(matrix)?;
+    list_cause(words, matrix.n, out.len())?;
+    if let Some(i) = first_other(&code.checks, matrix.check_count(), words) {
+        return Err(Refusal::NoCodeword(i));
     }
-    let messages = c.messages;
-    row_sums(&messages, words, out);
-    Answer::Done
+    row_sums(&code.messages, words, out);
+    Ok(())
 }

@@ -1,60 +1,43 @@
 // Describe: what a matrix's code is, by value.
-ghost use Rattle.std.specs.Prelude.{◌≡◌};
-ghost use Rattle.coding.specs.Lists.{zeros};
-ghost use Rattle.words.specs.Limits.{max_rows, max_checks, weight_slots};
 ghost use Rattle.weights.specs.Description.{DescriptionOf};
 
 use crate::dual::walk_code;
-use answers::Answer;
+use crate::weights::Weights;
+use answers::Refusal;
 use parity::code_of;
-use words::limits::{MAX_CHECKS, MAX_ROWS, WEIGHT_SLOTS};
+use walk::Walk;
+use words::limits::{MAX_CHECKS, MAX_ROWS};
+use words::shape::Matrix;
 
-// The answer to a matrix; where it is accepted, its reduced rows, check rows, minimum distance, weight counts and lightest codeword,
-// the smallest of those of weight dmin. Entries past k, n - k and n are 0, and on a refusal every part is 0.
+// Of an accepted matrix its reduced rows and its check rows, each with 0 after them, and its weights.
 #[derive(Drop)]
 pub struct Description {
-    pub answer: Answer,
     pub rows: [u32; MAX_ROWS],
     pub checks: [u32; MAX_CHECKS],
-    pub dmin: u32,
-    pub counts: [u32; WEIGHT_SLOTS],
-    pub lightest: u32,
-}
-
-// Every other part is 0 beside a refusal.
-fn refused(answer: Answer) -> Description
-    ensures { (result.answer ≡ answer) × (result.rows ≡ zeros max_rows) × (result.checks ≡ zeros max_checks) × (result.dmin ≡ 0)
-        × (result.counts ≡ zeros weight_slots) × (result.lightest ≡ 0) }
-{
-    Description {
-        answer,
-        rows: [0u32; MAX_ROWS],
-        checks: [0u32; MAX_CHECKS],
-        dmin: 0,
-        counts: [0u32; WEIGHT_SLOTS],
-        lightest: 0,
-    }
+    pub weights: Weights,
 }
 
 // One elimination, and one walk over the codewords or, where they are many, over the sums of the check rows.
-pub fn describe(n: u32, k: u32, rows: &[u32]) -> Description
-    ensures { DescriptionOf n k rows.now result }
+pub fn describe(matrix: &Matrix) -> Result<Description, Refusal>
+    ensures { DescriptionOf matrix.now.n matrix.now.k matrix.now.rows.now result }
 {
-    let c = code_of(n, k, rows);
-    let a = c.answer;
-    let Answer::Done = a else {
-        return refused(a);
-    };
-    let first = c.rows;
-    let second = c.checks;
-    let walk = walk_code(n, rows, &first[..k as usize], &second[..(n - k) as usize]);
-    let counts = walk.counts;
-    Description {
-        answer: Answer::Done,
-        rows: first,
-        checks: second,
-        dmin: walk.least,
+    let c = code_of(matrix)?;
+    let Walk {
         counts,
-        lightest: walk.lightest,
-    }
+        least,
+        lightest,
+    } = walk_code(
+        matrix,
+        &c.rows[..matrix.k as usize],
+        &c.checks[..matrix.check_count()],
+    );
+    Ok(Description {
+        rows: c.rows,
+        checks: c.checks,
+        weights: Weights {
+            dmin: least,
+            counts,
+            lightest,
+        },
+    })
 }

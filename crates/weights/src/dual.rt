@@ -11,6 +11,7 @@ ghost use Rattle.weights.specs.Inner.Overlap.{earlier, part_sum, slots, Small, C
 use distance::smallest_weighing;
 use walk::{Walk, least_of, walk_all};
 use words::limits::WEIGHT_SLOTS;
+use words::shape::Matrix;
 
 // With so few rows the walk over all codewords takes less than the way by the check rows.
 const FEW_ROWS: usize = 13;
@@ -82,23 +83,20 @@ pub(crate) fn counts_by_checks(n: u32, hs: &[u32]) -> [u32; WEIGHT_SLOTS]
         → result ≡ slots (weight_count n rows) }
 {
     let walk = walk_all(hs);
-    let sums = walk.counts;
-    let o = overlap_counts(n as usize, &sums);
-    let even = o.even;
-    let odd = o.odd;
-    quotients(&even, &odd, hs.len() as u32)
+    let o = overlap_counts(n as usize, &walk.counts);
+    quotients(&o.even, &o.odd, hs.len() as u32)
 }
 
 // What the walk over all codewords of the rows finds, but for few rows without it: the counts by way of the check rows, the lightest codeword
 // by way of the reduced rows.
-pub(crate) fn walk_code(n: u32, rows: &[u32], reduced: &[u32], hs: &[u32]) -> Walk
-    requires { CodeParts n rows.now reduced.now hs.now }
-    ensures { Walked rows.now (2 ^ length rows.now) result }
+pub(crate) fn walk_code(matrix: &Matrix, reduced: &[u32], hs: &[u32]) -> Walk
+    requires { CodeParts matrix.now.n matrix.now.rows.now reduced.now hs.now }
+    ensures { Walked matrix.now.rows.now (2 ^ length matrix.now.rows.now) result }
 {
-    if rows.len() <= FEW_ROWS {
-        return walk_all(rows);
+    if matrix.rows.len() <= FEW_ROWS {
+        return walk_all(matrix.rows);
     }
-    let counts = counts_by_checks(n, hs);
+    let counts = counts_by_checks(matrix.n, hs);
     let least = least_of(&counts);
     Walk {
         counts,

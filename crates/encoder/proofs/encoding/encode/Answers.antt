@@ -2,33 +2,36 @@
 use Rattle.std.proofs.Common.{sym, ◌∙◌}
 use Rattle.coding.specs.Matrix.{encode}
 use Rattle.words.specs.Accepted.{matrix_answer}
-use Rattle.answers.proofs.AnswerLaws.{stays, goes, kept, written}
+use Rattle.answers.proofs.AnswerLaws.{handed_on, stays, goes, kept, written}
 use Rattle.words.proofs.ShapeLaws.{every_row_of}
 use Rattle.words.proofs.WordListLaws.{list_in}
 use Rattle.words.proofs.ResultLaws.{enough-slots}
 use Rattle.encoder.proofs.EncoderLaws.{encoded}
 use Rattle.encoder.proofs.encoding.encode.Goals as goal
 
-pub returns-in_default : goal.returns-in_default
-returns-in_default c =
-    let a = c.args in
-    let A = c.accept-a.ensures in
-    encoded a.n a.k a.rows.now a.messages.now a.out.now _ a.out.now (every_row_of _ _ A.answer A.every_row)
-    (A.answer ∙ stays (matrix_answer a.n a.k a.rows.now) _ _ (sym A.answer ∙ c.in_default.is)) (kept _ _ c.in_default.is _ _)
+pub returns-in_err-accept : goal.returns-in_err-accept
+returns-in_err-accept c =
+    let m = c.args.matrix.now in
+    let A = c.accept.ensures in
+    let e = handed_on _ _ c.from_residual.ensures in
+    encoded m.n m.k m.rows.now c.args.messages.now c.args.out.now _ c.args.out.now (every_row_of _ _ A.answer A.every_row)
+    (e ∙ sym c.in_err-accept.was ∙ A.answer ∙ stays (matrix_answer m.n m.k m.rows.now) _ _ (sym A.answer ∙ c.in_err-accept.was)) (kept _ _ e _ _)
 
-pub returns-in_default-b : goal.returns-in_default-b
-returns-in_default-b c =
-    let a = c.args in
-    let A = c.accept-a.ensures in
-    encoded a.n a.k a.rows.now a.messages.now a.out.now _ a.out.now (every_row_of _ _ A.answer A.every_row)
-    (c.list_cause-b.ensures ∙ goes (matrix_answer a.n a.k a.rows.now) _ (sym A.answer ∙ c.in-Done.is)) (kept _ _ c.in_default-b.is _ _)
+pub returns-in_err-list_cause : goal.returns-in_err-list_cause
+returns-in_err-list_cause c =
+    let m = c.args.matrix.now in
+    let A = c.accept.ensures in
+    let e = handed_on _ _ c.from_residual-in_err-list_cause.ensures in
+    encoded m.n m.k m.rows.now c.args.messages.now c.args.out.now _ c.args.out.now (every_row_of _ _ A.answer A.every_row)
+    (e ∙ sym c.in_err-list_cause.was ∙ c.list_cause.ensures.answer ∙ goes (matrix_answer m.n m.k m.rows.now) _ (sym A.answer ∙ c.in_ok-accept.was))
+    (kept _ _ e _ _)
 
 pub returns : goal.returns
 returns c =
-    let a = c.args in
-    let A = c.accept-a.ensures in
-    let listed = sym c.list_cause-b.ensures ∙ c.in-Done-b.is in
-    encoded a.n a.k a.rows.now a.messages.now a.out.now _ _ (every_row_of _ _ A.answer A.every_row)
-    (sym listed ∙ goes (matrix_answer a.n a.k a.rows.now) _ (sym A.answer ∙ c.in-Done.is))
-    (written (encode a.rows.now) a.messages.now a.out.now _
-    (c.row_sums.ensures ∙ enough-slots (encode a.rows.now) a.messages.now a.out.now (list_in a.messages.now a.k _ listed).room))
+    let m = c.args.matrix.now in
+    let A = c.accept.ensures in
+    let listed = sym c.list_cause.ensures.answer ∙ c.in_ok-list_cause.was in
+    encoded m.n m.k m.rows.now c.args.messages.now c.args.out.now _ _ (every_row_of _ _ A.answer A.every_row)
+    (sym listed ∙ goes (matrix_answer m.n m.k m.rows.now) _ (sym A.answer ∙ c.in_ok-accept.was))
+    (written (encode m.rows.now) c.args.messages.now c.args.out.now _
+    (c.row_sums.ensures ∙ enough-slots (encode m.rows.now) c.args.messages.now c.args.out.now (list_in c.args.messages.now m.k _ listed).room))

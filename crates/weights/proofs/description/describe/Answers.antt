@@ -1,49 +1,58 @@
 -- What the code gives, and the walk or what it would find.
-use Rattle.std.proofs.Common.{◌≡◌, sym, ap, ◌∙◌, List, ℕ, ◌-◌, length, take, arith}
+use Rattle.std.proofs.Common.{◌≡◌, sym, ap, ap₂, ◌∙◌, List, ℕ, ◌-◌, length, take, arith}
 use Rattle.std.proofs.Math.Seq.{take_at}
+use Rattle.std.specs.Prelude.{Ok}
 use Rattle.coding.specs.Lists.{padded}
 use Rattle.coding.specs.Reduce.{reduced_rows}
 use Rattle.coding.specs.Check.{checks}
 use Rattle.words.specs.Limits.{max_rows, max_checks}
-use Rattle.words.specs.Accepted.{Accepted}
+use Rattle.words.specs.Accepted.{matrix_answer, Accepted}
 use Rattle.words.proofs.AcceptedLaws.{accepted_in}
-use Rattle.parity.specs.ParityChecks.{CodeOf}
+use Rattle.words.proofs.CodeLaws.{rows_are}
+use Rattle.answers.proofs.AnswerLaws.{handed_on, err_answered, answered_err, ok_answered, answered_ok}
 use Rattle.parity.specs.declared.check.Code.{Code}
-use Rattle.answers.specs.declared.answer.Answer.TheVariants.{Done}
+use Rattle.walk.proofs.WalkedLaws.{counts_are, least_is, lightest_is}
+use Rattle.weights.specs.declared.weights.Weights.{Weights}
 use Rattle.weights.specs.Inner.Overlap.{CodeParts}
-use Rattle.weights.proofs.DescribeLaws.{walked_weights}
+use Rattle.weights.proofs.DescribeLaws.{description_lem}
 use Rattle.weights.proofs.DualCountLaws.{checks_long}
 use Rattle.weights.proofs.description.describe.Goals as goal
 
--- the matrix is accepted
-module _ (n k : ℕ) (rows : List ℕ) (r : Code) (C : CodeOf n k rows r) (done : r.answer ≡ Done) where
-  accepted : Accepted n k rows
-  accepted = accepted_in _ _ _ (sym C.reduced.answer ∙ done)
+-- the reduced rows and the check rows of an accepted matrix stand in front of zeros
+parts : (n k : ℕ) (rows first second : List ℕ) → Accepted n k rows → first ≡ padded max_rows (reduced_rows n rows) → second ≡ padded max_checks (checks n rows)
+    → CodeParts n rows (take k first) (take (n - k) second)
+parts n k rows first second A f s =
+    let count : length (checks n rows) ≡ n - k = omega (arith, checks_long n k rows A) in
+    record {
+      k = k;
+      accepted = A;
+      reduced_are = ap (take k) f ∙ take_at (reduced_rows n rows) _ k (rows_are n k rows A);
+      checks_are = ap (take (n - k)) s ∙ take_at (checks n rows) _ (n - k) count;
+    }
 
-  -- the reduced rows and the check rows stand in front of zeros
-  reduced_are : r.rows ≡ padded max_rows (reduced_rows n rows)
-  reduced_are = rw done at C.reduced.rows_are
+same_weights : {a b : ℕ} {c d : List ℕ} {e f : ℕ} → a ≡ b → c ≡ d → e ≡ f
+    → ◌≡◌ {A = Weights} (record { dmin = a; counts = c; lightest = e }) (record { dmin = b; counts = d; lightest = f })
+same_weights p q r = λ i. record { dmin = p i; counts = q i; lightest = r i }
 
-  checks_are : r.checks ≡ padded max_checks (checks n rows)
-  checks_are = rw done at C.checks.rows_are
+pub returns-in_err-c : goal.returns-in_err-c
+returns-in_err-c c =
+    let e = answered_err _ _ _ (sym c.in_err-c.was ∙ c.code_of.ensures.is) in
+    description_lem c.code_of.ensures _ (handed_on _ _ c.from_residual.ensures ∙ err_answered _ _ _ e)
 
-  checks_count : length (checks n rows) ≡ n - k
-  checks_count = omega (arith, checks_long n k rows accepted)
-
-  parts : CodeParts n rows (take k r.rows) (take (n - k) r.checks)
-  parts = record {
-    k = k;
-    accepted = accepted;
-    reduced_are = ap (take k) reduced_are ∙ take_at (reduced_rows n rows) _ k (C.reduced.count done);
-    checks_are = ap (take (n - k)) checks_are ∙ take_at (checks n rows) _ (n - k) checks_count;
-  }
-
-pub walk_code-walk-requires : goal.walk_code-walk-requires
-walk_code-walk-requires c = parts _ _ _ c.code_of-c.result c.code_of-c.ensures c.in-Done.is
+pub walk_code-least-requires : goal.walk_code-least-requires
+walk_code-least-requires c =
+    let m = c.args.matrix.now in
+    let (d, x) = answered_ok (matrix_answer m.n m.k m.rows.now) _ _ (sym c.in_ok-c.was ∙ c.code_of.ensures.is) in
+    rw c.check_count.ensures
+    (parts m.n m.k m.rows.now _ _ (accepted_in _ _ _ d) (ap (λ (y : Code). y.rows) x) (ap (λ (y : Code). y.checks) x))
 
 pub returns : goal.returns
-returns c = record {
-  reduced = rw c.in-Done.is at c.code_of-c.ensures.reduced;
-  checks = rw c.in-Done.is at c.code_of-c.ensures.checks;
-  weights = walked_weights _ _ _ (accepted _ _ _ c.code_of-c.result c.code_of-c.ensures c.in-Done.is) c.walk_code-walk.result c.walk_code-walk.ensures;
-}
+returns c =
+    let m = c.args.matrix.now in
+    let (d, x) = answered_ok (matrix_answer m.n m.k m.rows.now) _ _ (sym c.in_ok-c.was ∙ c.code_of.ensures.is) in
+    let A = accepted_in m.n m.k m.rows.now d in
+    let w = c.walk_code-least.result in
+    let W = c.walk_code-least.ensures in
+    let found = same_weights (least_is m.n m.k m.rows.now A w W) (counts_are m.n m.k m.rows.now A w W) (lightest_is m.n m.k m.rows.now A w W) in
+    description_lem c.code_of.ensures _
+    (ap₂ (λ (y : Code) (z : Weights). Ok (record { rows = y.rows; checks = y.checks; weights = z })) x found ∙ ok_answered _ _ d)

@@ -4,12 +4,12 @@ use Rattle.walk.proofs.WalkedLaws.{walked_all}
 use Rattle.weights.proofs.WalkCodeLaws.{code_walked}
 use Rattle.weights.proofs.dual.walk_code.Goals as goal
 
-pub returns-then-rows-le-FEW_ROWS : goal.returns-then-rows-le-FEW_ROWS
-returns-then-rows-le-FEW_ROWS c =
+pub returns-then-matrix-le-FEW_ROWS : goal.returns-then-matrix-le-FEW_ROWS
+returns-then-matrix-le-FEW_ROWS c =
     walked_all (omega (arith, c.requires.accepted.range.rows, c.requires.accepted.count)) c.walk_all.ensures.walked
 
 pub returns : goal.returns
 returns c =
     let P = c.requires in
-    code_walked _ P.k _ P.accepted _ (c.counts_by_checks-counts.ensures P.k c.args.rows.now P.accepted P.checks_are) c.least_of-least.ensures
+    code_walked _ P.k _ P.accepted _ (c.counts_by_checks-counts.ensures P.k c.args.matrix.now.rows.now P.accepted P.checks_are) c.least_of-least.ensures
     (rw P.reduced_are at c.smallest_weighing.ensures)
