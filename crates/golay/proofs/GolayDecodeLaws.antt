@@ -1,9 +1,9 @@
 -- What the Golay calls promise: the steps end a word as Decode ends it with the Golay matrix within radius 3, so demand 3 is that of any
--- accepted matrix, with dmin 8; and the message is read back. Assumes nothing.
+-- accepted matrix, with dmin 8; and the message is read back.
+use Rattle.std.proofs.Common.{None}
 use mathlib.Core.Path.{◌≡◌, refl, sym, ap, subst, ◌∙◌}
 use mathlib.Core.Logic.{◌≢◌, ◌↔◌}
 use Prim.Native.Nat.{ℕ, ◌*◌, ◌/◌, ◌^◌, ◌<◌}
-use native.Mathlib.Decide.{ℕ_discrete}
 use native.Mathlib.Omega.{arith}
 use mathlib.Core.Bool.{true, false}
 use lib.Dec.{ltb, lit<, lit≤}
@@ -28,15 +28,15 @@ use Rattle.outcomes.specs.declared.ending.Outcome.TheVariants.{Clean, Mended, Fa
 use Rattle.outcomes.proofs.DemandLaws.{outcome_found, outcome_none, radius_rule, clean_rule}
 use Rattle.golay_code.specs.Golay.{golay_checks, golay_rows}
 use Rattle.golay_code.proofs.GolayLaws.{golay_size, golay_inside, golay_accepted, golay_dmin, golay_distance}
-use Rattle.golay.specs.Inner.Steps.{Pattern, no_pattern, ErrorPattern}
+use Rattle.golay.specs.Inner.Steps.{Pattern, ErrorPattern}
 use Rattle.golay.specs.Encoded.{Encoded}
 use Rattle.golay.specs.Decoded.{golay_outcome, Decoded}
 use Rattle.golay.specs.MessageRead.{MessageRead}
-use Rattle.golay.proofs.PatternLaws.{sum_lt, check-pattern, error_found}
+use Rattle.golay.proofs.PatternLaws.{sum_lt, check-pattern}
 
-no_pattern-weight : weight no_pattern ≡ 4
+four_places : weight 15 ≡ 4
 unfolding ones ones_in
-no_pattern-weight = refl
+four_places = refl
 
 zero_pattern : Pattern 0 0
 zero_pattern = check-pattern 0 (lit< tt) (rw weight-zero (lit≤ tt))
@@ -63,32 +63,29 @@ module _ (w : ℕ) (h : w < 2 ^ 24) where
             ∙ xor_zero_r (systematic_syndrome 12 golay_checks w),
       )
 
-  pub outcome_is : (e : ℕ) → ErrorPattern (systematic_syndrome 12 golay_checks w) e → outcome_of (Within 3) w e ≡ golay_outcome w
+  outcome_is : (e : ℕ) → Pattern (systematic_syndrome 12 golay_checks w) e → outcome_of (Within 3) w e ≡ golay_outcome w
   unfolding golay_outcome
-  outcome_is e F = go (ℕ_discrete e no_pattern)
-    where
-      go : Dec (e ≡ no_pattern) → outcome_of (Within 3) w e ≡ golay_outcome w
-      go (no ne) =
-          outcome_found 24 12 golay_rows golay_accepted w h 3 (rw golay_dmin (lit≤ tt)) e (pattern-codeword e (F.found ne)) (F.found ne).light
-      go (yes z) =
-          outcome_none 24 12 golay_rows golay_accepted w h 3 e (omega (arith, ap weight z, no_pattern-weight))
-          (λ c k. F.none z (w ⊕ c) (codeword-pattern c k).0 (codeword-pattern c k).1)
+  outcome_is e F = outcome_found 24 12 golay_rows golay_accepted w h 3 (rw golay_dmin (lit≤ tt)) e (pattern-codeword e F) F.light
 
   -- a word with the syndrome 0 is clean
   pub clean_is : systematic_syndrome 12 golay_checks w ≡ 0 → Clean w ≡ golay_outcome w
-  clean_is z = clean_zero ∙ outcome_is 0 (rw z (error_found 0 0 zero_pattern))
+  clean_is z = clean_zero ∙ outcome_is 0 (rw z zero_pattern)
     where
       clean_zero : Clean w ≡ outcome_of (Within 3) w 0
       clean_zero = sym (simp (weight-zero) refl)
 
-  -- where no pattern is found the word is far
-  pub far_is : (e : ℕ) → ErrorPattern (systematic_syndrome 12 golay_checks w) e → e ≡ no_pattern → Far ≡ golay_outcome w
-  far_is e F z = sym (simp (no_pattern-weight) refl) ∙ outcome_is no_pattern (rw z at F)
+  -- where no pattern is found the word is far, as with any heavier one
+  pub far_is : ErrorPattern (systematic_syndrome 12 golay_checks w) None → Far ≡ golay_outcome w
+  unfolding golay_outcome
+  far_is none =
+      sym (simp (four_places) refl)
+      ∙ outcome_none 24 12 golay_rows golay_accepted w h 3 15 (omega (arith, four_places))
+      (λ c k. none (w ⊕ c) (codeword-pattern c k).0 (codeword-pattern c k).1)
 
   -- a pattern mends a word whose syndrome s is not 0; its weight is not 0, for the zero word has the syndrome 0
   pub mended_is : (s e : ℕ) → s ≡ systematic_syndrome 12 golay_checks w → Pattern s e → s ≢ 0 → Mended (w ⊕ e) (weight e) ≡ golay_outcome w
   mended_is s e q F ne =
-      sym (simp (ne_eqb (weight e) 0 heavy, le-leb (weight e) 3 F.light) refl) ∙ outcome_is e (error_found _ e (rw q at F))
+      sym (simp (ne_eqb (weight e) 0 heavy, le-leb (weight e) 3 F.light) refl) ∙ outcome_is e (rw q at F)
     where
       heavy : weight e ≡ 0 → ⊥
       heavy z = ne (sym F.has ∙ ap (systematic_syndrome 12 golay_checks) (weight_none e z) ∙ zero_pattern.has)
