@@ -1,9 +1,9 @@
 -- What the Golay calls promise: the steps end a word as Decode ends it with the Golay matrix within radius 3, so demand 3 is that of any
--- accepted matrix, with dmin 8; and the message is read back. Assumes nothing.
+-- accepted matrix, with dmin 8; and the message is read back.
+use Rattle.std.proofs.Common.{None}
 use mathlib.Core.Path.{◌≡◌, refl, sym, ap, subst, ◌∙◌}
 use mathlib.Core.Logic.{◌≢◌, ◌↔◌}
 use Prim.Native.Nat.{ℕ, ◌*◌, ◌/◌, ◌^◌, ◌<◌}
-use native.Mathlib.Decide.{ℕ_discrete}
 use native.Mathlib.Omega.{arith}
 use mathlib.Core.Bool.{true, false}
 use lib.Dec.{ltb, lit<, lit≤}
@@ -19,24 +19,24 @@ use Rattle.coding.proofs.MatrixLaws.{codeword-lt}
 use Rattle.coding.proofs.SystematicLaws.{systematic-syndrome, systematic-syndrome-xor, systematic_message, systematic-codeword}
 use Rattle.coding.proofs.SearchLaws.{codeword-test, codeword_fails}
 use Rattle.answers.specs.declared.answer.Refusal.TheVariants.{WordOutside, NoCodeword}
-use Rattle.answers.specs.declared.answer.Answer.TheVariants.{Done, Refused}
-use Rattle.answers.proofs.AnswerLaws.{refused_done}
 use Rattle.words.proofs.CodeLaws.{one_is, back_is}
-use Rattle.outcomes.specs.Outcome.{outcome_of, word_in, count_in}
+use Rattle.outcomes.specs.Outcome.{outcome_of, word_in, count_in, corrected}
 use Rattle.outcomes.specs.declared.ending.Reading.TheVariants.{Within}
+use Rattle.outcomes.specs.declared.ending.Correction.{Correction}
 use Rattle.outcomes.specs.declared.ending.Outcome.TheVariants.{Clean, Mended, Far}
 use Rattle.outcomes.proofs.DemandLaws.{outcome_found, outcome_none, radius_rule, clean_rule}
 use Rattle.golay_code.specs.Golay.{golay_checks, golay_rows}
 use Rattle.golay_code.proofs.GolayLaws.{golay_size, golay_inside, golay_accepted, golay_dmin, golay_distance}
-use Rattle.golay.specs.Inner.Steps.{Pattern, no_pattern, ErrorPattern}
+use Rattle.golay.specs.Inner.Steps.{Pattern, ErrorPattern}
 use Rattle.golay.specs.Encoded.{Encoded}
 use Rattle.golay.specs.Decoded.{golay_outcome, Decoded}
 use Rattle.golay.specs.MessageRead.{MessageRead}
-use Rattle.golay.proofs.PatternLaws.{sum_lt, check-pattern, error_found}
+use Rattle.golay.proofs.PatternLaws.{sum_lt, check-pattern}
+use Rattle.std.specs.Prelude.{Ok, Err}
 
-no_pattern-weight : weight no_pattern ≡ 4
+four_places : weight 15 ≡ 4
 unfolding ones ones_in
-no_pattern-weight = refl
+four_places = refl
 
 zero_pattern : Pattern 0 0
 zero_pattern = check-pattern 0 (lit< tt) (rw weight-zero (lit≤ tt))
@@ -63,32 +63,29 @@ module _ (w : ℕ) (h : w < 2 ^ 24) where
             ∙ xor_zero_r (systematic_syndrome 12 golay_checks w),
       )
 
-  pub outcome_is : (e : ℕ) → ErrorPattern (systematic_syndrome 12 golay_checks w) e → outcome_of (Within 3) w e ≡ golay_outcome w
+  outcome_is : (e : ℕ) → Pattern (systematic_syndrome 12 golay_checks w) e → outcome_of (Within 3) w e ≡ golay_outcome w
   unfolding golay_outcome
-  outcome_is e F = go (ℕ_discrete e no_pattern)
-    where
-      go : Dec (e ≡ no_pattern) → outcome_of (Within 3) w e ≡ golay_outcome w
-      go (no ne) =
-          outcome_found 24 12 golay_rows golay_accepted w h 3 (rw golay_dmin (lit≤ tt)) e (pattern-codeword e (F.found ne)) (F.found ne).light
-      go (yes z) =
-          outcome_none 24 12 golay_rows golay_accepted w h 3 e (omega (arith, ap weight z, no_pattern-weight))
-          (λ c k. F.none z (w ⊕ c) (codeword-pattern c k).0 (codeword-pattern c k).1)
+  outcome_is e F = outcome_found 24 12 golay_rows golay_accepted w h 3 (rw golay_dmin (lit≤ tt)) e (pattern-codeword e F) F.light
 
   -- a word with the syndrome 0 is clean
   pub clean_is : systematic_syndrome 12 golay_checks w ≡ 0 → Clean w ≡ golay_outcome w
-  clean_is z = clean_zero ∙ outcome_is 0 (rw z (error_found 0 0 zero_pattern))
+  clean_is z = clean_zero ∙ outcome_is 0 (rw z zero_pattern)
     where
       clean_zero : Clean w ≡ outcome_of (Within 3) w 0
       clean_zero = sym (simp (weight-zero) refl)
 
-  -- where no pattern is found the word is far
-  pub far_is : (e : ℕ) → ErrorPattern (systematic_syndrome 12 golay_checks w) e → e ≡ no_pattern → Far ≡ golay_outcome w
-  far_is e F z = sym (simp (no_pattern-weight) refl) ∙ outcome_is no_pattern (rw z at F)
+  -- where no pattern is found the word is far, as with any heavier one
+  pub far_is : ErrorPattern (systematic_syndrome 12 golay_checks w) None → Far ≡ golay_outcome w
+  unfolding golay_outcome
+  far_is none =
+      sym (simp (four_places) refl)
+      ∙ outcome_none 24 12 golay_rows golay_accepted w h 3 15 (omega (arith, four_places))
+      (λ c k. none (w ⊕ c) (codeword-pattern c k).0 (codeword-pattern c k).1)
 
   -- a pattern mends a word whose syndrome s is not 0; its weight is not 0, for the zero word has the syndrome 0
   pub mended_is : (s e : ℕ) → s ≡ systematic_syndrome 12 golay_checks w → Pattern s e → s ≢ 0 → Mended (w ⊕ e) (weight e) ≡ golay_outcome w
   mended_is s e q F ne =
-      sym (simp (ne_eqb (weight e) 0 heavy, le-leb (weight e) 3 F.light) refl) ∙ outcome_is e (error_found _ e (rw q at F))
+      sym (simp (ne_eqb (weight e) 0 heavy, le-leb (weight e) 3 F.light) refl) ∙ outcome_is e (rw q at F)
     where
       heavy : weight e ≡ 0 → ⊥
       heavy z = ne (sym F.has ∙ ap (systematic_syndrome 12 golay_checks) (weight_none e z) ∙ zero_pattern.has)
@@ -126,52 +123,39 @@ golay_encoded u h =
 -- ---- the answers
 
 module _ (u : ℕ) where
-  pub encode_refused : ltb u (2 ^ 12) ≡ false → Encoded u (record { answer = Refused (WordOutside 0); word = 0 })
-  encode_refused f = record { answer = sym (simp f refl); word = refl; back = golay_back }
+  pub encode_refused : ltb u (2 ^ 12) ≡ false → Encoded u (Err (WordOutside 0))
+  encode_refused f = record { is = sym (simp f refl); back = golay_back }
 
-  pub encode_done : ltb u (2 ^ 12) ≡ true → (w : ℕ) → w ≡ u * 2 ^ 12 ⊕ encode golay_checks u → Encoded u (record { answer = Done; word = w })
-  encode_done t w e = record { answer = sym (simp t refl); word = e ∙ golay_encoded u (ltb-true u (2 ^ 12) t); back = golay_back }
+  pub encode_done : ltb u (2 ^ 12) ≡ true → (w : ℕ) → w ≡ u * 2 ^ 12 ⊕ encode golay_checks u → Encoded u (Ok w)
+  encode_done t w e = record { is = ap Ok (e ∙ golay_encoded u (ltb-true u (2 ^ 12) t)) ∙ sym (simp t refl); back = golay_back }
 
 module _ (w : ℕ) where
-  pub decode_refused : ltb w (2 ^ 24) ≡ false → Decoded w (record { answer = Refused (WordOutside 0); word = 0; count = 0 })
-  decode_refused f = record {
-    answer = sym (simp f refl);
-    word = refl;
-    count = refl;
+  pub decode_refused : ltb w (2 ^ 24) ≡ false → Decoded w (Err (WordOutside 0))
+  decode_refused f = record { is = sym (simp f refl); apart = golay_distance; within = tt; clean = tt }
+
+  pub decode_done : ltb w (2 ^ 24) ≡ true → (c : Correction ℕ) → c ≡ corrected (golay_outcome w) w → Decoded w (Ok c)
+  decode_done t c e = record {
+    is = ap Ok e ∙ sym (simp t refl);
     apart = golay_distance;
-    within = refused_done;
-    clean = refused_done;
+    within = rw e (golay_rules w (ltb-true w (2 ^ 24) t));
+    clean = rw e (golay_clean w);
   }
 
-  pub decode_done : ltb w (2 ^ 24) ≡ true → (c d : ℕ) → c ≡ word_in (golay_outcome w) w → d ≡ count_in (golay_outcome w)
-      → Decoded w (record { answer = Done; word = c; count = d })
-  decode_done t c d ec ed = record {
-    answer = sym (simp t refl);
-    word = ec;
-    count = ed;
-    apart = golay_distance;
-    within = λ _. rw (ec, ed) (golay_rules w (ltb-true w (2 ^ 24) t));
-    clean = λ _. rw ed (golay_clean w);
-  }
+  pub read_outside : ltb w (2 ^ 24) ≡ false → MessageRead w (Err (WordOutside 0))
+  read_outside f = record { is = sym (simp f refl); one = golay_message w; places = golay_places w }
 
-  pub read_outside : ltb w (2 ^ 24) ≡ false → MessageRead w (record { answer = Refused (WordOutside 0); message = 0 })
-  read_outside f = record { answer = sym (simp f refl); message = refl; one = golay_message w; places = golay_places w }
-
-  pub read_refused : ltb w (2 ^ 24) ≡ true → systematic_syndrome 12 golay_checks w ≢ 0
-      → MessageRead w (record { answer = Refused (NoCodeword 0); message = 0 })
+  pub read_refused : ltb w (2 ^ 24) ≡ true → systematic_syndrome 12 golay_checks w ≢ 0 → MessageRead w (Err (NoCodeword 0))
   read_refused t ne = record {
-    answer = sym (simp (t, codeword_fails golay_rows w (λ c. ne ((golay_test w (ltb-true w (2 ^ 24) t)).0 c))) refl);
-    message = refl;
+    is = sym (simp (t, codeword_fails golay_rows w (λ c. ne ((golay_test w (ltb-true w (2 ^ 24) t)).0 c))) refl);
     one = golay_message w;
     places = golay_places w;
   }
 
-  pub read_done : ltb w (2 ^ 24) ≡ true → systematic_syndrome 12 golay_checks w ≡ 0 → MessageRead w (record { answer = Done; message = w / 2 ^ 12 })
+  pub read_done : ltb w (2 ^ 24) ≡ true → systematic_syndrome 12 golay_checks w ≡ 0 → MessageRead w (Ok (w / 2 ^ 12))
   read_done t z =
       let c : Codeword golay_rows w = (golay_test w (ltb-true w (2 ^ 24) t)).1 z in
       record {
-        answer = sym (simp (t, (codeword-test golay_rows w).1 c) refl);
-        message = sym (golay_places w c);
+        is = ap Ok (sym (golay_places w c)) ∙ sym (simp (t, (codeword-test golay_rows w).1 c) refl);
         one = golay_message w;
         places = golay_places w;
       }

@@ -1,5 +1,6 @@
 -- Laws of 000's steps: an error pattern of at most three places has at most one of them among its message places or at most one among
--- its check places, and since P times P is the identity the second case is the first for the syndrome times P. Assumes nothing.
+-- its check places, and since P times P is the identity the second case is the first for the syndrome times P.
+use Rattle.std.proofs.Common.{None}
 use mathlib.Core.Path.{◌≡◌, refl, sym, ap, ap₂, ◌∙◌}
 use Prim.Native.Nat.{ℕ, zero, suc, ◌+◌, ◌*◌, ◌/◌, ◌%◌, ◌^◌, ◌≤◌, ◌<◌}
 use native.Mathlib.Nat.{mul_comm}
@@ -8,7 +9,7 @@ use native.Mathlib.Omega.{arith}
 use lib.Dec.{leb, lit≤}
 use lib.ListN.{length, get_or}
 use lib.Bits.{bit_and, and_mask, xor_comm, xor_zero_r, xor_lt, xor_shifted}
-use lib.Count.{ones, ones_in, ones_cat}
+use lib.Count.{ones_cat}
 use lib.Pow.{pow-lt, pow-add, shl_exact, shr_lt, split}
 use borrow.Author.Tests.{leb-true, leb-false}
 use Rattle.coding.specs.Lists.{first}
@@ -22,7 +23,7 @@ use Rattle.coding.proofs.MatrixLaws.{encode-xor, encode-zero, encode-lt, row_mes
 use Rattle.coding.proofs.SystematicLaws.{pattern-syndrome}
 use Rattle.golay_code.specs.Golay.{golay_checks}
 use Rattle.golay_code.proofs.GolayLaws.{golay_size, golay_inside, golay_twice}
-use Rattle.golay.specs.Inner.Steps.{Pattern, no_pattern, FewInMessage, ErrorPattern}
+use Rattle.golay.specs.Inner.Steps.{Pattern, FewInMessage, ErrorPattern}
 
 -- ---- words of 24 places as check places x and message places y
 
@@ -45,16 +46,6 @@ pub syndrome-lt : (w : ℕ) → systematic_syndrome 12 golay_checks w < 2 ^ 12
 syndrome-lt w = xor_lt 12 (w % 2 ^ 12) (encode golay_checks (w / 2 ^ 12)) (check-places w) (sum_lt (w / 2 ^ 12))
 
 -- ---- patterns
-
-pattern_some : (s e : ℕ) → Pattern s e → e ≡ no_pattern → ⊥
-unfolding ones ones_in
-pattern_some s e F z = let four : weight 15 ≡ 4 = refl in absurd (omega (arith, F.light, ap weight z, four))
-
-pub few_found : (s e : ℕ) → Pattern s e → FewInMessage s e
-few_found s e F = record { found = λ _. F; none = λ z. absurd (pattern_some s e F z) }
-
-pub error_found : (s e : ℕ) → Pattern s e → ErrorPattern s e
-error_found s e F = record { found = λ _. F; none = λ z. absurd (pattern_some s e F z) }
 
 -- check places alone
 pub check-pattern : (s : ℕ) → s < 2 ^ 12 → weight s ≤ 3 → Pattern s s
@@ -99,8 +90,8 @@ near_hit s i e h =
     (first_hit (λ j. leb (weight (s ⊕ get_or golay_checks j 0)) 2) 12 (rw (sym e) h)))
 
 -- neither
-pub few_none : (s : ℕ) → 3 < weight s → ((i : ℕ) → i < 12 → 2 < weight (s ⊕ get_or golay_checks i 0)) → FewInMessage s no_pattern
-few_none s h far = record { found = λ ne. absurd (ne refl); none = λ _ x y l e k. go x y l e (weight y) refl k }
+pub few_none : (s : ℕ) → 3 < weight s → ((i : ℕ) → i < 12 → 2 < weight (s ⊕ get_or golay_checks i 0)) → FewInMessage s None
+few_none s h far x y l e k = go x y l e (weight y) refl k
   where
     go : (x y : ℕ) → y < 2 ^ 12 → x ⊕ encode golay_checks y ≡ s → (c : ℕ) → weight y ≡ c → c ≤ 1 → 3 < weight x + c
     go x y l e zero q k =
@@ -116,7 +107,7 @@ few_none s h far = record { found = λ ne. absurd (ne refl); none = λ _ x y l e
         omega (arith, far i m, ap weight z)
     go x y l e (suc (suc c)) q k = absurd (omega arith)
 
-pub few_far : (s i : ℕ) → 3 < weight s → i ≡ first (λ j. leb (weight (s ⊕ get_or golay_checks j 0)) 2) 12 → 12 ≤ i → FewInMessage s no_pattern
+pub few_far : (s i : ℕ) → 3 < weight s → i ≡ first (λ j. leb (weight (s ⊕ get_or golay_checks j 0)) 2) 12 → 12 ≤ i → FewInMessage s None
 few_far s i h e k =
     few_none s h (λ j l. leb-false (weight (s ⊕ get_or golay_checks j 0)) 2
     (first-before (λ j. leb (weight (s ⊕ get_or golay_checks j 0)) 2) 12 j (omega (arith, e, k, l))))
@@ -146,22 +137,20 @@ other-pattern s f h F = record {
     y_lt : y < 2 ^ 12
     y_lt = message_places f F.below
 
-error_none : (s : ℕ) → FewInMessage s no_pattern → FewInMessage (encode golay_checks s) no_pattern → ErrorPattern s no_pattern
-error_none s A B = record { found = λ ne. absurd (ne refl); none = λ _. heavy }
+-- neither s nor s times P has one
+pub error_none : (s : ℕ) → FewInMessage s None → FewInMessage (encode golay_checks s) None → ErrorPattern s None
+error_none s A B d h e = go (dec_le (weight (d / 2 ^ 12)) 1) (dec_le (weight (d % 2 ^ 12)) 1)
   where
-    heavy : (d : ℕ) → d < 2 ^ 24 → systematic_syndrome 12 golay_checks d ≡ s → 3 < weight d
-    heavy d h e = go (dec_le (weight (d / 2 ^ 12)) 1) (dec_le (weight (d % 2 ^ 12)) 1)
-      where
-        y_lt : d / 2 ^ 12 < 2 ^ 12
-        y_lt = message_places d h
+    y_lt : d / 2 ^ 12 < 2 ^ 12
+    y_lt = message_places d h
 
-        whole : weight d ≡ weight (d / 2 ^ 12) + weight (d % 2 ^ 12)
-        whole = ap weight (sym (split d 12)) ∙ halves_weight (d % 2 ^ 12) (d / 2 ^ 12) (check-places d)
+    whole : weight d ≡ weight (d / 2 ^ 12) + weight (d % 2 ^ 12)
+    whole = ap weight (sym (split d 12)) ∙ halves_weight (d % 2 ^ 12) (d / 2 ^ 12) (check-places d)
 
-        go : Dec (weight (d / 2 ^ 12) ≤ 1) → Dec (weight (d % 2 ^ 12) ≤ 1) → 3 < weight d
-        go (yes l) b = omega (arith, whole, A.none refl (d % 2 ^ 12) (d / 2 ^ 12) y_lt e l)
-        go (no l) (yes k) = omega (arith, whole, B.none refl (d / 2 ^ 12) (d % 2 ^ 12) (check-places d) (exchanged (d % 2 ^ 12) (d / 2 ^ 12) s y_lt e) k)
-        go (no l) (no k) = omega (arith, whole, l, k)
+    go : Dec (weight (d / 2 ^ 12) ≤ 1) → Dec (weight (d % 2 ^ 12) ≤ 1) → 3 < weight d
+    go (yes l) b = omega (arith, whole, A (d % 2 ^ 12) (d / 2 ^ 12) y_lt e l)
+    go (no l) (yes k) = omega (arith, whole, B (d / 2 ^ 12) (d % 2 ^ 12) (check-places d) (exchanged (d % 2 ^ 12) (d / 2 ^ 12) s y_lt e) k)
+    go (no l) (no k) = omega (arith, whole, l, k)
 
 -- the exchange, as the code writes it
 exchange : (f : ℕ) → f < 2 ^ 24 → ((bit_and f 4095 * 2 ^ 12) % 2 ^ 32) ⊕ f / 2 ^ 12 ≡ (f % 2 ^ 12) * 2 ^ 12 + f / 2 ^ 12
@@ -169,38 +158,6 @@ exchange f h =
     ap (λ (a : ℕ). ((a * 2 ^ 12) % 2 ^ 32) ⊕ f / 2 ^ 12) (and_mask f 12)
     ∙ ap (λ (a : ℕ). a ⊕ f / 2 ^ 12) (shl_exact 12 12 32 (check-places f) (lit≤ tt)) ∙ xor_shifted (f % 2 ^ 12) 12 (f / 2 ^ 12) (message_places f h)
 
--- ---- the two turns: s, then s times P
-
--- t is tried in this turn, and no turn before has found a pattern; after the second there is none
-pub record Tried (s t turn : ℕ) : Type 0 where
-  pub turns : turn ≤ 2
-  pub below : t < 2 ^ 12
-  pub first : turn ≡ 0 → t ≡ s
-  pub second : turn ≡ 1 → (FewInMessage s no_pattern) × (t ≡ encode golay_checks s)
-  pub neither : turn ≡ 2 → ErrorPattern s no_pattern
-
-pub tried_start : (s : ℕ) → s < 2 ^ 12 → Tried s s 0
-tried_start s h = record {
-  turns = omega arith;
-  below = h;
-  first = λ _. refl;
-  second = λ z. absurd (omega (arith, z));
-  neither = λ z. absurd (omega (arith, z));
-}
-
-module _ (s t turn : ℕ) (T : Tried s t turn) where
-  pub tried_again : turn < 2 → FewInMessage t no_pattern → Tried s (encode golay_checks t) (turn + 1)
-  tried_again l F = record {
-    turns = omega arith;
-    below = sum_lt t;
-    first = λ z. absurd (omega (arith, z));
-    second = λ z. let e = T.first (omega (arith, z)) in (rw e at F, ap (encode golay_checks) e);
-    neither = λ z. let (A, e) = T.second (omega (arith, z)) in error_none s A (rw e at F);
-  }
-
-  pub tried-first : (e : ℕ) → turn ≡ 0 → Pattern t e → ErrorPattern s e
-  tried-first e z F = error_found s e (rw (T.first z) at F)
-
-  -- the second turn's pattern with its halves exchanged, as the code writes it
-  pub tried_second : (f : ℕ) → s < 2 ^ 12 → turn ≡ 1 → Pattern t f → ErrorPattern s (((bit_and f 4095 * 2 ^ 12) % 2 ^ 32) ⊕ f / 2 ^ 12)
-  tried_second f h z F = error_found s _ (rw (exchange f F.below) (other-pattern s f h (rw (T.second z).1 at F)))
+-- a pattern of s times P is one of s with its halves exchanged
+pub exchanged-pattern : (s f : ℕ) → s < 2 ^ 12 → Pattern (encode golay_checks s) f → Pattern s (((bit_and f 4095 * 2 ^ 12) % 2 ^ 32) ⊕ f / 2 ^ 12)
+exchanged-pattern s f h F = rw (exchange f F.below) (other-pattern s f h F)

@@ -6,60 +6,35 @@ ghost use Rattle.golay.specs.Decoded.{golay_outcome, Decoded};
 
 use crate::nearby::near_row;
 use crate::rows::{CHECK_ROWS, check_sum, syndrome};
-use answers::{Answer, Refusal};
-use outcomes::Outcome;
+use answers::Refusal;
+use outcomes::{Correction, Outcome};
 use words::word::{fits, sum, weight};
 
 pub const RADIUS: u32 = 3;
 
-// Stands for no pattern: heavier than any that is corrected.
-const NO_PATTERN: u32 = 15;
-
-// The answer to a received word of 24 places, and the codeword within three places with its distance; a far word is answered
-// unchanged with the count 255. On a refusal both are 0.
-#[derive(Drop)]
-pub struct Correction {
-    pub answer: Answer,
-    pub word: u32,
-    pub count: u8,
-}
-
 // An error pattern with the syndrome s, at most three places and at most one of them among the message places.
-fn few_in_message(s: u32) -> u32
+fn few_in_message(s: u32) -> Option<u32>
     requires { s < 2 ^ 12 }
     ensures { FewInMessage s result }
 {
     if weight(s) <= RADIUS {
-        return s;
+        return Some(s);
     }
     let i = near_row(s);
-    if 12 <= i {
-        return NO_PATTERN;
-    }
-    let rows = CHECK_ROWS;
-    (1u32 << (12 + i)) ^ sum(s, rows[i as usize])
+    let row = CHECK_ROWS.get(i as usize)?;
+    Some((1u32 << (12 + i)) ^ sum(s, *row))
 }
 
-// An error pattern with the syndrome s and at most three places. The second turn, with s times P, finds it with its halves exchanged. One
-// call serves both turns, so that it is compiled in line.
-fn error_pattern(s: u32) -> u32
+// An error pattern with the syndrome s and at most three places. With s times P it is found with its halves exchanged.
+fn error_pattern(s: u32) -> Option<u32>
     requires { s < 2 ^ 12 }
     ensures { ErrorPattern s result }
 {
-    let mut t = s;
-    let mut turn: u32 = 0;
-    while turn < 2 {
-        let e = few_in_message(t);
-        if e != NO_PATTERN {
-            if turn == 0 {
-                return e;
-            }
-            return ((e & 4095) << 12) ^ (e >> 12);
-        }
-        t = check_sum(t);
-        turn += 1;
+    if let Some(e) = few_in_message(s) {
+        return Some(e);
     }
-    NO_PATTERN
+    let e = few_in_message(check_sum(s))?;
+    Some(((e & 4095) << 12) ^ (e >> 12))
 }
 
 // How a received word ends. A syndrome of at most three places is itself the pattern, and its weight is at hand. A pattern has at least
@@ -76,28 +51,18 @@ fn outcome(received: u32) -> Outcome<u32>
     if d <= RADIUS {
         return Outcome::Mended(sum(received, s), d as u8);
     }
-    let e = error_pattern(s);
-    if e == NO_PATTERN {
-        return Outcome::Far;
+    match error_pattern(s) {
+        Some(e) => Outcome::Mended(sum(received, e), weight(e) as u8),
+        None => Outcome::Far,
     }
-    Outcome::Mended(sum(received, e), weight(e) as u8)
 }
 
-// The codeword within three places of a word of 24, or far; a one outside them is refused.
-pub fn decode(received: u32) -> Correction
+// The codeword within three places of a word of 24, or the word unchanged with count 255; a one outside them is refused.
+pub fn decode(received: u32) -> Result<Correction<u32>, Refusal>
     ensures { Decoded received result }
 {
     if !fits(received, 24) {
-        return Correction {
-            answer: Answer::Refused(Refusal::WordOutside(0)),
-            word: 0,
-            count: 0,
-        };
+        return Err(Refusal::WordOutside(0));
     }
-    let o = outcome(received);
-    Correction {
-        answer: Answer::Done,
-        word: o.word(received),
-        count: o.count(),
-    }
+    Ok(outcome(received).correction(received))
 }

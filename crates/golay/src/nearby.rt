@@ -37,14 +37,11 @@ fn overlaps(s: u32) -> u64
     requires { s < 2 ^ 12 }
     ensures { result ≡ lanes (λ p. weight (bit_and s p)) golay_checks }
 {
-    let places = PLACE_LANES;
-    let mut sum: u64 = 0;
-    let mut m: u64 = s as u64;
-    let mut j: usize = 0;
-    while j < 12 {
-        sum = sum + places[j] * (m & 1);
-        m = m >> 1;
-        j += 1;
+    let mut sum = 0;
+    let mut m = u64::from(s);
+    for &lanes in &PLACE_LANES {
+        sum += lanes * (m & 1);
+        m >>= 1;
     }
     sum
 }

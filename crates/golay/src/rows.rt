@@ -4,7 +4,7 @@ ghost use Rattle.coding.specs.Matrix.{encode};
 ghost use Rattle.coding.specs.Inner.SystematicSyndrome.{systematic_syndrome};
 ghost use Rattle.golay_code.specs.Golay.{golay_checks};
 
-use words::word::selected;
+use sums::row_sum;
 
 // Rows 0 to 10 are rotations of row 0's first 11 digits with a 1, row 11 is eleven ones and a 0; place 0 is the lowest bit.
 pub(crate) const CHECK_ROWS: [u32; 12] = [
@@ -15,16 +15,7 @@ pub(crate) const CHECK_ROWS: [u32; 12] = [
 pub(crate) fn check_sum(message: u32) -> u32
     ensures { result ≡ encode golay_checks message }
 {
-    let rows = CHECK_ROWS;
-    let mut sum: u32 = 0;
-    let mut m = message;
-    let mut i: usize = 0;
-    while i < 12 {
-        sum = sum ^ selected(rows[i], m);
-        m = m >> 1;
-        i += 1;
-    }
-    sum
+    row_sum(&CHECK_ROWS, message)
 }
 
 // The syndrome of a word: its check places, plus those of its message places.

@@ -1,13 +1,17 @@
--- The sum of columns by diagonals: it is linear in the data, and at each single data place it is that place's column. Assumes nothing.
+-- The sum of columns by diagonals: it is linear in the data, and at each single data place it is that place's column.
 use mathlib.Core.Path.{◌≡◌, refl, sym, ap, ap₂, ◌∙◌}
 use mathlib.Core.List.{List, [], ◌∷◌}
-use Prim.Native.Nat.{ℕ, zero, suc, ◌+◌, ◌-◌, ◌*◌, ◌/◌, ◌%◌, ◌^◌, ◌≤◌, ◌<◌}
+use Prim.Native.Nat.{ℕ, suc, ◌+◌, ◌*◌, ◌/◌, ◌%◌, ◌^◌, ◌<◌}
 use native.Mathlib.Nat.{add-zero}
 use native.Mathlib.Omega.{arith}
-use lib.ListN.{length, get_or, drop}
-use lib.Seq.{drop-cons}
+use Rattle.std.proofs.Common.{reverse, fold, w64}
+use Rattle.std.proofs.lemmas.Nat.{or_shifted, and_le_l}
+use Rattle.std.proofs.lemmas.List.{reverse-append}
+use Rattle.std.proofs.lemmas.List.Sums.{fold-append}
+use Rattle.std.specs.Int.{rotate_left}
+use lib.ListN.{length}
 use lib.Pow.{pow_pos}
-use lib.Bits.{bit_and, xor_block, xor_mod, xor_shr}
+use lib.Bits.{bit_and, xor_block, xor_mod, xor_shr, xor_lt, xor_shifted}
 use Rattle.coding.specs.Lists.{tabulate}
 use Rattle.coding.specs.Word.{◌⊕◌, bit}
 use Rattle.coding.specs.Matrix.{encode}
@@ -42,11 +46,29 @@ onto k x = x ⊕ x / 2 ^ k
 abbrev pub byte_sum : ℕ → ℕ
 byte_sum x = bit_and (onto 8 (onto 16 (onto 32 x))) 255
 
--- one diagonal more, the loop going down
-pub turned_step : (ms : List ℕ) (k x : ℕ) → 0 < k → k ≤ length ms
-    → turned_sum (drop (k - 1) ms) x ≡ turn (turned_sum (drop k ms) x) ⊕ bit_and x (get_or ms (k - 1) 0)
-turned_step ms zero x h l = absurd (omega arith)
-turned_step ms (suc k) x h l = let e : suc k - 1 ≡ k = omega arith in rw e (ap (λ (t : List ℕ). turned_sum t x) (drop-cons ms k 0 l))
+turn_lt : (x : ℕ) → x < 2 ^ 64 → turn x < 2 ^ 64
+turn_lt x h = xor_lt 64 ((x * 2 ^ 1) % 2 ^ 64) (x / 2 ^ 63) (omega arith) (omega arith)
+
+-- as the machine turns a word
+turn_is : (x : ℕ) → x < 2 ^ 64 → rotate_left w64 x 1 ≡ turn x
+turn_is x h =
+    let e : (x * 2 ^ 1) % 2 ^ 64 ≡ (x % 2 ^ 63) * 2 ^ 1 = omega arith in
+    let l : x / 2 ^ 63 < 2 ^ 1 = omega arith in
+    rw e (or_shifted (x % 2 ^ 63) 1 (x / 2 ^ 63) l ∙ sym (xor_shifted (x % 2 ^ 63) 1 (x / 2 ^ 63) l))
+
+turned_lt : (ms : List ℕ) (x : ℕ) → x < 2 ^ 64 → turned_sum ms x < 2 ^ 64
+turned_lt [] x h = omega arith
+turned_lt (m ∷ ms) x h =
+    xor_lt 64 (turn (turned_sum ms x)) (bit_and x m) (turn_lt (turned_sum ms x) (turned_lt ms x h)) (omega (arith, and_le_l x m))
+
+-- the fold over the diagonals, the last one first
+pub turned-fold : (ms : List ℕ) (x : ℕ) → x < 2 ^ 64 → fold (λ (s d : ℕ). rotate_left w64 s 1 ⊕ bit_and x d) 0 (reverse ms) ≡ turned_sum ms x
+turned-fold [] x h = refl
+turned-fold (m ∷ ms) x h =
+    ap (fold (λ (s d : ℕ). rotate_left w64 s 1 ⊕ bit_and x d) 0) (reverse-append (m ∷ []) ms)
+    ∙ fold-append (λ (s d : ℕ). rotate_left w64 s 1 ⊕ bit_and x d) 0 (reverse ms) (m ∷ [])
+    ∙ ap (λ (s : ℕ). rotate_left w64 s 1 ⊕ bit_and x m) (turned-fold ms x h)
+    ∙ ap (λ (s : ℕ). s ⊕ bit_and x m) (turn_is (turned_sum ms x) (turned_lt ms x h))
 
 shl-xor : (a b k w : ℕ) → ((a ⊕ b) * 2 ^ k) % 2 ^ w ≡ (a * 2 ^ k) % 2 ^ w ⊕ (b * 2 ^ k) % 2 ^ w
 shl-xor a b k w =

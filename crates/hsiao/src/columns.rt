@@ -19,12 +19,10 @@ fn numbered(table: &[u8; 64], s: u8) -> u8
     ensures { result ≡ column_number columns s }
 {
     let mut n: u8 = 0;
-    let mut i: u8 = 0;
-    while i < 64 {
-        if table[i as usize] == s {
-            n += i + 1;
+    for (i, column) in table.iter().enumerate() {
+        if *column == s {
+            n += i as u8 + 1;
         }
-        i += 1;
     }
     n
 }

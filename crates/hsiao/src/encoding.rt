@@ -1,5 +1,7 @@
 // Encode: the check byte of 64 data bits.
-ghost use Rattle.std.specs.Prelude.{◌≡◌};
+ghost use Rattle.std.specs.Prelude.{◌≡◌, fold, reverse, bit_and};
+ghost use Rattle.std.specs.Int.{rotate_left, w64};
+ghost use Rattle.coding.specs.Word.{◌⊕◌};
 ghost use Rattle.coding.specs.Matrix.{encode};
 ghost use Rattle.hsiao.specs.Table.{columns};
 ghost use Rattle.hsiao.specs.Encoded.{Encoded};
@@ -16,17 +18,22 @@ const DIAGONALS: [u64; 8] = [
     0x00815F00E0804C2A,
 ];
 
+// What the masks select, the last one first, each time moved on by one place, the last place becoming the first.
+fn turned(masks: &[u64; 8], bits: u64) -> u64
+    ensures { result ≡ fold (λ s m. rotate_left w64 s 1 ⊕ bit_and bits m) 0 (reverse masks.now) }
+{
+    masks
+        .iter()
+        .rev()
+        .fold(0, |s, mask| s.rotate_left(1) ^ (bits & mask))
+}
+
 // The sum of the columns of the places that hold a 1. Digit (i + k) % 8 of column i is wanted at that place of the sum: the places
 // that entry k selects are moved on by k, around the end, and the eight bytes are added up.
 pub(crate) fn column_sum(bits: u64) -> u8
     ensures { result ≡ encode columns bits }
 {
-    let mut s: u64 = 0;
-    let mut k: usize = 8;
-    while 0 < k {
-        k -= 1;
-        s = (s << 1) ^ (s >> 63) ^ (bits & DIAGONALS[k]);
-    }
+    let s = turned(&DIAGONALS, bits);
     let four = s ^ (s >> 32);
     let two = four ^ (four >> 16);
     let one = two ^ (two >> 8);

@@ -1,43 +1,43 @@
--- Laws of the causes 1 to 5, and of what is known past them. Assumes nothing.
-use mathlib.Core.Path.{◌≡◌, refl, sym, ap, ◌∙◌}
+-- Laws of the causes 1 to 5, and of what is known past them.
+use mathlib.Core.Path.{◌≡◌, refl, ap}
 use mathlib.Core.List.{List}
-use mathlib.Core.Bool.{Bool, true}
+use mathlib.Core.Bool.{Bool, true, false}
 use Prim.Native.Nat.{ℕ, ◌+◌, ◌-◌, ◌*◌, ◌/◌, ◌≤◌, ◌<◌}
+use native.Mathlib.Nat.{le_refl}
 use native.Mathlib.Omega.{arith}
 use lib.Dec.{leb}
 use borrow.Author.Tests.{leb-true, le-leb, lt-leb}
-use Rattle.coding.specs.Lists.{zeros, padded}
-use Rattle.coding.specs.Check.{checks}
 use Rattle.coding.specs.Weight.{dmin}
-use Rattle.words.specs.Limits.{max_checks}
-use Rattle.answers.specs.Refusal.{and_then, Between, if_done}
-use Rattle.words.specs.Widest.{EveryRow}
+use Rattle.words.specs.Limits.{width}
+use Rattle.answers.specs.Refusal.{and_then, Between, Never, Answer, done}
+use Rattle.words.specs.Widest.{EveryRow, EveryWord}
+use Rattle.words.specs.Lists.{list_answer}
+use Rattle.coding.specs.Matrix.{Inside}
+use Rattle.words.proofs.WordListLaws.{list_passes}
 use Rattle.words.specs.Accepted.{matrix_answer, Accepted}
 use Rattle.words.proofs.AcceptedLaws.{accepted_in, matrix-numbered}
 use Rattle.words.proofs.CodeLaws.{distance_is}
 use Rattle.answers.specs.declared.answer.Refusal.{Refusal}
 use Rattle.answers.specs.declared.answer.Refusal.TheVariants.{RadiusTooLarge}
-use Rattle.answers.specs.declared.answer.Answer.{Answer}
-use Rattle.answers.specs.declared.answer.Answer.TheVariants.{Done, Refused}
 use Rattle.answers.proofs.AnswerLaws.{unless_done, and_then_done, stays, goes}
-use Rattle.answers.proofs.AnswerLaws.{Numbered, unless-numbered, and_then-numbered, numbered_as, never_of}
+use Rattle.answers.proofs.AnswerLaws.{Numbered, unless-numbered, and_then-numbered, numbered_as, never, never_of, then_never}
 use Rattle.words.proofs.ShapeLaws.{rows_first}
-use Rattle.judging.specs.Known.{asked, KnownPast}
-use Rattle.judging.specs.declared.matrix.Known.{Known}
+use Rattle.judging.specs.Known.{asked, known_of}
 use Rattle.judging.specs.Causes.{radius_answer, code_answer}
 use Rattle.outcomes.specs.declared.ending.Reading.{Reading}
 use Rattle.outcomes.specs.declared.ending.Reading.TheVariants.{Nearest, Within}
+use Rattle.std.specs.Prelude.{Err, unwrap_or}
 
 -- ---- cause 5 by half of dmin - 1
 
-pub radius_large : (r d : ℕ) → 1 ≤ d → (d - 1) / 2 < r → Refused RadiusTooLarge ≡ radius_answer (Within r) d
+pub radius_large : (r d : ℕ) → 1 ≤ d → (d - 1) / 2 < r → Err RadiusTooLarge ≡ radius_answer (Within r) d
 radius_large r d h l = simp (lt-leb (2 * r + 1) d (omega arith))
 
-pub radius_fits : (r d : ℕ) → 1 ≤ d → r ≤ (d - 1) / 2 → Done ≡ radius_answer (Within r) d
+pub radius_fits : (r d : ℕ) → 1 ≤ d → r ≤ (d - 1) / 2 → done ≡ radius_answer (Within r) d
 radius_fits r d h l = simp (le-leb (2 * r + 1) d (omega arith))
 
-pub radius_in : (r d : ℕ) → radius_answer (Within r) d ≡ Done → 2 * r + 1 ≤ d
-radius_in r d e = leb-true (2 * r + 1) d (unless_done (leb (2 * r + 1) d) RadiusTooLarge Done e).0
+pub radius_in : (r d : ℕ) → radius_answer (Within r) d ≡ done → 2 * r + 1 ≤ d
+radius_in r d e = leb-true (2 * r + 1) d (unless_done (leb (2 * r + 1) d) RadiusTooLarge done e).0
 
 -- it asks for the minimum distance only within a radius
 pub radius_same : (reading : Reading) (measure : Bool) (d e : ℕ) → (asked reading measure ≡ true → d ≡ e) → radius_answer reading d ≡ radius_answer reading e
@@ -51,47 +51,34 @@ pub asked_measured : (reading : Reading) (measure : Bool) → measure ≡ true �
 asked_measured Nearest measure e = e
 asked_measured (Within r) measure e = refl
 
--- what is known of an accepted matrix
-module _ {asks : Bool} {n : ℕ} {rows : List ℕ} {tested : Answer} {r : Known} (K : KnownPast asks n rows tested r) (d : r.answer ≡ Done) where
-  pub known_checks : r.checks ≡ padded max_checks (checks n rows)
-  known_checks = rw d at K.check_rows
+-- what stands for the minimum distance where it isn't asked for plays no part
+pub radius_known : (reading : Reading) (measure : Bool) (n : ℕ) (rows : List ℕ)
+    → radius_answer reading (unwrap_or (known_of (asked reading measure) n rows).dmin 1) ≡ radius_answer reading (dmin rows)
+radius_known Nearest measure n rows = refl
+radius_known (Within r) measure n rows = refl
 
-  pub known_distance : asks ≡ true → r.dmin ≡ dmin rows
-  known_distance e = rw (d, e) at K.distance
+pub known_positive : (asks : Bool) (n : ℕ) (rows : List ℕ) → 1 ≤ dmin rows → 1 ≤ unwrap_or (known_of asks n rows).dmin 1
+known_positive true n rows h = h
+known_positive false n rows h = le_refl 1
 
--- the same past more causes that pass, and a refusal
-pub known_on : {asks : Bool} {n : ℕ} {rows : List ℕ} {tested later : Answer} {r : Known} → KnownPast asks n rows tested r → r.answer ≡ later
-    → KnownPast asks n rows later r
-known_on K e = record { answer = e; check_rows = K.check_rows; distance = K.distance }
-
-pub known_refused : {asks : Bool} {n : ℕ} {rows : List ℕ} {later : Answer} {r : Known} (c : Refusal) → later ≡ Refused c
-    → (r.answer ≡ later) × (r.checks ≡ zeros max_checks) × (r.dmin ≡ 0) → KnownPast asks n rows later r
-known_refused c e (a, x, y) = record { answer = a; check_rows = rw (a ∙ e) x; distance = rw (a ∙ e) y }
-
-pub nothing_asked : (a : Answer) → ◌≡◌ {A = ℕ} 0 (if_done a 0 0)
-nothing_asked Done = refl
-nothing_asked (Refused c) = refl
-
-pub known_positive : {n : ℕ} (k : ℕ) {rows : List ℕ} {asks : Bool} {r : Known} → KnownPast asks n rows (matrix_answer n k rows) r → asks ≡ true → r.answer ≡ Done
-    → 1 ≤ r.dmin
-known_positive {n} k {rows} K e d =
-    rw (known_distance K d e) (distance_is n k rows (accepted_in n k rows (sym K.answer ∙ d))).bounds.0
+pub dmin_positive : (n k : ℕ) (rows : List ℕ) → Accepted n k rows → 1 ≤ dmin rows
+dmin_positive n k rows A = (distance_is n k rows A).bounds.0
 
 -- ---- the groups in order
 
 -- past the causes of the matrix it is accepted
-pub accepted_past : (n k : ℕ) (rows : List ℕ) (reading : Reading) (later : Answer) → and_then (code_answer n k rows reading) later ≡ Done → Accepted n k rows
+pub accepted_past : (n k : ℕ) (rows : List ℕ) (reading : Reading) (later : Answer) → and_then (code_answer n k rows reading) later ≡ done → Accepted n k rows
 unfolding code_answer
 accepted_past n k rows reading later e =
     accepted_in n k rows (and_then_done (matrix_answer n k rows) _ (and_then_done (code_answer n k rows reading) later e).0).0
 
 module _ (n k : ℕ) (rows : List ℕ) (reading : Reading) where
   -- the matrix refuses, or cause 5 decides
-  pub at_matrix : (c : Refusal) → matrix_answer n k rows ≡ Refused c → matrix_answer n k rows ≡ code_answer n k rows reading
+  pub at_matrix : (c : Refusal) → matrix_answer n k rows ≡ Err c → matrix_answer n k rows ≡ code_answer n k rows reading
   unfolding code_answer
   at_matrix c e = stays (matrix_answer n k rows) _ c e
 
-  pub at_radius : matrix_answer n k rows ≡ Done → radius_answer reading (dmin rows) ≡ code_answer n k rows reading
+  pub at_radius : matrix_answer n k rows ≡ done → radius_answer reading (dmin rows) ≡ code_answer n k rows reading
   unfolding code_answer
   at_radius e = goes (matrix_answer n k rows) _ e
 
@@ -99,7 +86,7 @@ module _ (n k : ℕ) (rows : List ℕ) (reading : Reading) where
 
 pub radius-numbered : (P : ℕ → Type 0) (reading : Reading) (d : ℕ) → P 5 → Numbered P (radius_answer reading d)
 radius-numbered P Nearest d h = tt
-radius-numbered P (Within r) d h = unless-numbered P (leb (2 * r + 1) d) RadiusTooLarge Done h tt
+radius-numbered P (Within r) d h = unless-numbered P (leb (2 * r + 1) d) RadiusTooLarge done h tt
 
 pub code_numbered : (n k : ℕ) (rows : List ℕ) (reading : Reading) → Numbered (Between 1 5) (code_answer n k rows reading)
 unfolding code_answer
@@ -114,3 +101,21 @@ unfolding code_answer
 code_every_row n k rows reading w =
     rows_first n (matrix_answer n k rows) _ _ refl w
     (never_of (Between 5 5) 3 (λ h. omega (arith, h)) _ (radius-numbered (Between 5 5) reading (dmin rows) (omega arith, omega arith)))
+
+-- ---- 02, No. 7: with the causes of the lists
+
+code_never : (n k : ℕ) (rows : List ℕ) (reading : Reading) → Never 7 (code_answer n k rows reading)
+code_never n k rows reading = never_of (Between 1 5) 7 (λ h. omega (arith, h)) _ (code_numbered n k rows reading)
+
+module _ (n k : ℕ) (rows : List ℕ) (reading : Reading) (row : EveryRow n (code_answer n k rows reading)) where
+  -- refused before the words are looked at
+  pub word_refused : (c : Refusal) (later : Answer) → code_answer n k rows reading ≡ Err c → EveryWord n (and_then (code_answer n k rows reading) later)
+  word_refused c later e w =
+      let same = stays (code_answer n k rows reading) later c e in
+      (rw same at (row w), rw same at (code_never n k rows reading))
+
+  -- and past them
+  pub word_listed : (words : List ℕ) (m : ℕ) → Inside width words → EveryWord n (and_then (code_answer n k rows reading) (list_answer words n m))
+  word_listed words m f w =
+      let (three, seven) = never 3 7 _ _ refl (list_passes words n m w f) in
+      (then_never 3 _ _ (row w) three, then_never 7 _ _ (code_never n k rows reading) seven)

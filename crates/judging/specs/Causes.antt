@@ -1,19 +1,17 @@
 -- Causes 1 to 5: what is asked of the matrix and of the reading.
 use Rattle.std.specs.Prelude.{◌≡◌, List, ℕ, ◌+◌, ◌*◌, leb}
 use Rattle.coding.specs.Weight.{dmin}
-use Rattle.answers.specs.Refusal.{unless, and_then}
+use Rattle.answers.specs.Refusal.{unless, and_then, Answer, done}
 use Rattle.words.specs.Widest.{EveryRow}
 use Rattle.words.specs.Accepted.{matrix_answer}
 use Rattle.answers.specs.declared.answer.Refusal.TheVariants.{RadiusTooLarge}
-use Rattle.answers.specs.declared.answer.Answer.{Answer}
-use Rattle.answers.specs.declared.answer.Answer.TheVariants.{Done}
 use Rattle.outcomes.specs.declared.ending.Reading.{Reading}
 use Rattle.outcomes.specs.declared.ending.Reading.TheVariants.{Nearest, Within}
 
 -- cause 5: a radius r with 2 r + 1 above dmin
 abbrev pub radius_answer : Reading → ℕ → Answer
-radius_answer Nearest d = Done
-radius_answer (Within r) d = unless (leb (2 * r + 1) d) RadiusTooLarge Done
+radius_answer Nearest d = done
+radius_answer (Within r) d = unless (leb (2 * r + 1) d) RadiusTooLarge done
 
 -- causes 1 to 5: what is asked of the matrix and of the reading
 unfoldable pub code_answer : ℕ → ℕ → List ℕ → Reading → Answer

@@ -1,11 +1,11 @@
 -- What is taken from the matrix once causes have been tested.
-use Rattle.std.specs.Prelude.{◌≡◌, List, Bool, true, cond, ℕ}
-use Rattle.coding.specs.Lists.{zeros, padded}
+use Rattle.std.specs.Prelude.{◌≡◌, List, Bool, true, cond, ℕ, Some, None, Result}
+use Rattle.coding.specs.Lists.{padded}
 use Rattle.coding.specs.Check.{checks}
 use Rattle.coding.specs.Weight.{dmin}
 use Rattle.words.specs.Limits.{max_checks}
-use Rattle.answers.specs.Refusal.{if_done}
-use Rattle.answers.specs.declared.answer.Answer.{Answer}
+use Rattle.answers.specs.declared.answer.Refusal.{Refusal}
+use Rattle.answers.specs.Refusal.{Answer, answered}
 use Rattle.outcomes.specs.declared.ending.Reading.{Reading}
 use Rattle.outcomes.specs.declared.ending.Reading.TheVariants.{Nearest, Within}
 use Rattle.judging.specs.declared.matrix.Known.{Known}
@@ -15,9 +15,10 @@ abbrev pub asked : Reading → Bool → Bool
 asked Nearest measure = measure
 asked (Within r) measure = true
 
--- causes have been tested, 1 to 4 or more; where they pass, the check rows are those of the matrix, and the minimum distance is there where it
--- is asked for; 0 everywhere else
-pub record KnownPast (asks : Bool) (n : ℕ) (rows : List ℕ) (tested : Answer) (r : Known) : Type 0 where
-  pub answer : r.answer ≡ tested
-  pub check_rows : r.checks ≡ if_done r.answer (padded max_checks (checks n rows)) (zeros max_checks)
-  pub distance : r.dmin ≡ if_done r.answer (cond asks (dmin rows) 0) 0
+-- what the matrix tells: its check rows, and the minimum distance where it is asked for
+abbrev pub known_of : Bool → ℕ → List ℕ → Known
+known_of asks n rows = record { checks = padded max_checks (checks n rows); dmin = cond asks (Some (dmin rows)) None }
+
+-- causes have been tested, 1 to 4 or more: one of them refuses, or what the matrix tells is known
+abbrev pub KnownPast : Bool → ℕ → List ℕ → Answer → Result Known Refusal → Type 0
+KnownPast asks n rows tested r = r ≡ answered tested (known_of asks n rows)

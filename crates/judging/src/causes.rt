@@ -2,75 +2,69 @@
 ghost use Rattle.std.specs.Prelude.{◌≡◌, ℕ, ◌≤◌, min};
 ghost use Rattle.answers.specs.Refusal.{and_then};
 ghost use Rattle.words.specs.Lists.{list_answer};
-ghost use Rattle.outcomes.specs.declared.ending.Reading.TheVariants.{Within};
+ghost use Rattle.words.specs.Widest.{EveryRow, EveryWord};
 ghost use Rattle.judging.specs.Causes.{radius_answer, code_answer, CodeJudged};
 ghost use Rattle.judging.specs.Known.{asked, KnownPast};
 
-use crate::matrix::{Known, asks, known_past_4, refused};
-use answers::{Answer, Refusal};
+use crate::matrix::{Known, asks, known_past_4};
+use answers::Refusal;
 use outcomes::Reading;
-use words::lists::{list_cause, smaller};
+use words::lists::list_cause;
+use words::shape::Matrix;
 
-// Cause 5, by the minimum distance. Half of dmin - 1 is compared, so that no radius overflows.
-fn radius_cause(reading: Reading, d: u32) -> Answer
-    requires { (ρ : ℕ) → reading ≡ Within ρ → 1 ≤ d }
-    ensures { result ≡ radius_answer reading d }
-{
-    let Reading::Within(radius) = reading else {
-        return Answer::Done;
-    };
-    if (d - 1) / 2 < radius {
-        return Answer::Refused(Refusal::RadiusTooLarge);
-    }
-    Answer::Done
+// What a batch is: the matrix, how it is read, and the received words.
+#[derive(Clone, Copy)]
+pub struct Batch<'a> {
+    pub matrix: Matrix<'a>,
+    pub reading: Reading,
+    pub words: &'a [u32],
 }
 
-// Causes 1 to 5, and past them what the matrix told.
-fn known_past_5(measure: bool, n: u32, k: u32, rows: &[u32], reading: Reading) -> Known
-    ensures { KnownPast (asked reading measure) n rows.now (code_answer n k rows.now reading) result }
+// Cause 5, by the minimum distance. Half of dmin - 1 is compared, so that no radius overflows.
+fn radius_cause(reading: Reading, d: u32) -> Result<(), Refusal>
+    requires { 1 ≤ d }
+    ensures { result ≡ radius_answer reading d }
 {
-    let c = known_past_4(n, k, rows, asks(reading, measure));
-    let a = c.answer;
-    let Answer::Done = a else {
-        return c;
-    };
-    let b = radius_cause(reading, c.dmin);
-    let Answer::Done = b else {
-        return refused(b);
-    };
-    c
+    match reading {
+        Reading::Within(radius) if (d - 1) / 2 < radius => Err(Refusal::RadiusTooLarge),
+        _ => Ok(()),
+    }
+}
+
+// Causes 1 to 5, and past them what the matrix told. Where the minimum distance isn't asked for, no reading is refused.
+fn known_past_5(measure: bool, matrix: &Matrix, reading: Reading) -> Result<Known, Refusal>
+    ensures known { KnownPast (asked reading measure) matrix.now.n matrix.now.rows.now
+        (code_answer matrix.now.n matrix.now.k matrix.now.rows.now reading) result }
+    ensures every_row { EveryRow matrix.now.n (code_answer matrix.now.n matrix.now.k matrix.now.rows.now reading) }
+{
+    let known = known_past_4(matrix, asks(reading, measure))?;
+    radius_cause(reading, known.dmin.unwrap_or(1))?;
+    Ok(known)
 }
 
 // Causes 1 to 5: what Decode asks of the matrix and of the reading.
-pub fn code_cause(n: u32, k: u32, rows: &[u32], reading: Reading) -> Answer
-    ensures { CodeJudged n k rows.now reading result }
+pub fn code_cause(matrix: &Matrix, reading: Reading) -> Result<(), Refusal>
+    ensures { CodeJudged matrix.now.n matrix.now.k matrix.now.rows.now reading result }
 {
-    let c = known_past_5(false, n, k, rows, reading);
-    c.answer
+    known_past_5(false, matrix, reading)?;
+    Ok(())
 }
 
 // Causes 1 to 8, for lists of so many slots and bytes, and past them what the matrix told.
 pub fn known_past_8(
     measure: bool,
-    n: u32,
-    k: u32,
-    rows: &[u32],
-    reading: Reading,
-    words: &[u32],
+    batch: &Batch,
     slots: usize,
     bytes: usize,
-) -> Known
-    ensures { KnownPast (asked reading measure) n rows.now
-        (and_then (code_answer n k rows.now reading) (list_answer words.now n (min slots bytes))) result }
+) -> Result<Known, Refusal>
+    ensures known { KnownPast (asked batch.now.reading measure) batch.now.matrix.n batch.now.matrix.rows.now
+        (and_then (code_answer batch.now.matrix.n batch.now.matrix.k batch.now.matrix.rows.now batch.now.reading)
+        (list_answer batch.now.words.now batch.now.matrix.n (min slots bytes))) result }
+    ensures every_word { EveryWord batch.now.matrix.n
+        (and_then (code_answer batch.now.matrix.n batch.now.matrix.k batch.now.matrix.rows.now batch.now.reading)
+        (list_answer batch.now.words.now batch.now.matrix.n (min slots bytes))) }
 {
-    let c = known_past_5(measure, n, k, rows, reading);
-    let a = c.answer;
-    let Answer::Done = a else {
-        return c;
-    };
-    let b = list_cause(words, n, smaller(slots, bytes));
-    let Answer::Done = b else {
-        return refused(b);
-    };
-    c
+    let known = known_past_5(measure, &batch.matrix, batch.reading)?;
+    list_cause(batch.words, batch.matrix.n, slots.min(bytes))?;
+    Ok(known)
 }

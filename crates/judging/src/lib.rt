@@ -4,5 +4,5 @@
 pub mod causes; // causes 1 to 5 and 1 to 8
 pub mod matrix; // causes 1 to 4, with what is taken from the matrix
 
-pub use crate::causes::{code_cause, known_past_8};
+pub use crate::causes::{Batch, code_cause, known_past_8};
 pub use crate::matrix::Known;

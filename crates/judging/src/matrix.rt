@@ -1,65 +1,47 @@
 // Causes 1 to 4, and what is taken from the matrix: one elimination, and the minimum distance only where it is asked for.
 ghost use Rattle.std.specs.Prelude.{◌≡◌};
-ghost use Rattle.coding.specs.Lists.{zeros};
-ghost use Rattle.words.specs.Limits.{max_checks};
 ghost use Rattle.words.specs.Accepted.{matrix_answer};
+ghost use Rattle.words.specs.Widest.{EveryRow};
 ghost use Rattle.judging.specs.Known.{asked, KnownPast};
 
-use answers::Answer;
+use answers::Refusal;
 use distance::distance_of;
 use outcomes::Reading;
-use parity::code_of;
+use parity::parity_checks;
 use words::limits::MAX_CHECKS;
+use words::shape::Matrix;
 
-// The answer to some causes; where they pass, the check rows and, where it was asked for, the minimum distance; 0 everywhere else.
+// What the matrix told past some causes: the check rows and, where it was asked for, the minimum distance.
 #[derive(Drop)]
 pub struct Known {
-    pub answer: Answer,
     pub checks: [u32; MAX_CHECKS],
-    pub dmin: u32,
-}
-
-// Nothing is known beside a refusal.
-pub(crate) fn refused(answer: Answer) -> Known
-    ensures { (result.answer ≡ answer) × (result.checks ≡ zeros max_checks) × (result.dmin ≡ 0) }
-{
-    Known {
-        answer,
-        checks: [0u32; MAX_CHECKS],
-        dmin: 0,
-    }
+    pub dmin: Option<u32>,
 }
 
 // Whether the minimum distance is asked for: within a radius always.
 pub(crate) fn asks(reading: Reading, measure: bool) -> bool
     ensures { result ≡ asked reading measure }
 {
-    let Reading::Within(_) = reading else {
-        return measure;
-    };
-    true
+    match reading {
+        Reading::Nearest => measure,
+        Reading::Within(_) => true,
+    }
 }
 
-// Causes 1 to 4, and past them what the matrix told.
-pub(crate) fn known_past_4(n: u32, k: u32, rows: &[u32], measure: bool) -> Known
-    ensures { KnownPast measure n rows.now (matrix_answer n k rows.now) result }
+// Causes 1 to 4, and past them what the matrix told. The reading decides what is asked, so that the step is chosen by a value.
+pub(crate) fn known_past_4(matrix: &Matrix, measure: bool) -> Result<Known, Refusal>
+    ensures known { KnownPast measure matrix.now.n matrix.now.rows.now (matrix_answer matrix.now.n matrix.now.k matrix.now.rows.now) result }
+    ensures every_row { EveryRow matrix.now.n (matrix_answer matrix.now.n matrix.now.k matrix.now.rows.now) }
 {
     if measure {
-        let d = distance_of(n, k, rows);
-        let answer = d.answer;
-        let checks = d.checks;
-        return Known {
-            answer,
-            checks,
-            dmin: d.dmin,
-        };
+        let d = distance_of(matrix)?;
+        return Ok(Known {
+            checks: d.checks,
+            dmin: Some(d.dmin),
+        });
     }
-    let c = code_of(n, k, rows);
-    let answer = c.answer;
-    let checks = c.checks;
-    Known {
-        answer,
-        checks,
-        dmin: 0,
-    }
+    Ok(Known {
+        checks: parity_checks(matrix)?,
+        dmin: None,
+    })
 }

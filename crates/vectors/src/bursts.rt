@@ -1,19 +1,10 @@
 // Operation 63: bursts on the interleaved bits of codewords. In each window of depth times radius bits every pattern, or only the one of all
 // ones, is changed, and the bits are decoded.
-ghost use Rattle.io.specs.Counts.{IsPrefixLen};
-
-use crate::print::{UNUSED, UNUSED_COUNT, UNUSED_ENTRY, flag, item};
-use crate::records::{ENTRIES, SLOTS, number, wide};
+use crate::lent::{ENTRIES, UNUSED, UNUSED_COUNT, UNUSED_ENTRY};
+use crate::print::item;
+use crate::records::{Record, SLOTS, list, number, start};
 use interleaving::{decode, interleave};
 use words::word::place;
-
-#[derive(Clone, Copy)]
-struct Code {
-    n: u32,
-    k: u32,
-    radius: u32,
-    depth: u32,
-}
 
 // The number of the window's first bit, and a word with a one for each changed bit of the window.
 #[derive(Clone, Copy)]
@@ -22,195 +13,137 @@ struct Burst {
     pattern: u32,
 }
 
-// The patterns from the lowest on, below the limit.
-#[derive(Clone, Copy)]
-struct Patterns {
-    lowest: u32,
-    limit: u32,
+impl Burst {
+    // Whether bit number b is changed.
+    fn hits(self, b: u32) -> bool {
+        place(self.pattern, b.wrapping_sub(self.first)) == 1
+    }
 }
 
 // How many bursts there were, and how many were mended.
-#[derive(Clone, Copy)]
+#[derive(Drop)]
 struct Tally {
     cases: u32,
     mended: u32,
 }
 
-// The product, by sums, which wrap and so need no bound.
-fn product(a: u32, b: u32) -> u32 {
-    let mut p: u32 = 0;
-    let mut i: u32 = 0;
-    while i < b {
-        p = p.wrapping_add(a);
-        i += 1;
-    }
-    p
-}
-
-// 1 where bit number b is changed.
-fn hit(burst: Burst, b: u32) -> u32 {
-    place(burst.pattern, b.wrapping_sub(burst.first))
-}
-
-// How many places of word i are changed: place j travels as bit number depth * j + i.
-fn hits(code: Code, burst: Burst, i: u32) -> u32 {
-    let mut count: u32 = 0;
-    let mut b = i;
-    let mut j: u32 = 0;
-    while j < code.n {
-        count = count.wrapping_add(hit(burst, b));
-        b = b.wrapping_add(code.depth);
-        j += 1;
-    }
-    count
-}
-
-// The bit as it arrives.
-fn arrived(burst: Burst, b: usize, bit: u8) -> u8 {
-    let h = hit(burst, (b % 4294967296) as u32);
-    bit ^ (h % 2) as u8
-}
-
-// The bits as they arrive, at the start of the list; answers how many.
-fn receive(burst: Burst, bits: &[u8], list: &mut [u8]) -> usize
-    ensures { IsPrefixLen result list.new }
-{
-    if list.len() < bits.len() {
-        return 0;
-    }
-    let mut b: usize = 0;
-    while b < bits.len() {
-        list[b] = arrived(burst, b, bits[b]);
-        b += 1;
-    }
-    b
-}
-
-// 1 where each answer is the word sent, and its count the number of the word's changed places.
-fn back(code: Code, burst: Burst, sent: &[u32], out: &[u32], counts: &[u8]) -> u32 {
-    if out.len() < sent.len() {
-        return 0;
-    }
-    if counts.len() < sent.len() {
-        return 0;
-    }
-    let mut all: u32 = 1;
-    let mut i: usize = 0;
-    while i < sent.len() {
-        let expected = hits(code, burst, (i % 4294967296) as u32);
-        all = all & flag(out[i] == sent[i]) & flag(wide(counts[i]) == expected);
-        i += 1;
-    }
-    all
-}
-
-// 1 where the burst is mended.
-fn mends(code: Code, burst: Burst, rows: &[u32], sent: &[u32], bits: &[u8]) -> u32 {
-    let mut list = [0u8; SLOTS];
-    let mut out = [UNUSED; SLOTS];
-    let mut counts = [UNUSED_COUNT; SLOTS];
-    let mut work = [UNUSED_ENTRY; ENTRIES];
-    let size = receive(burst, bits, &mut list);
-    let received = &list[..size];
-    decode(
-        code.n,
-        code.k,
-        rows,
-        code.radius,
-        sent.len(),
-        received,
-        &mut out,
-        &mut counts,
-        &mut work,
-    );
-    back(code, burst, sent, &out, &counts)
-}
-
-// The tally with one case more.
-fn counted(tally: Tally, mended: u32) -> Tally {
-    Tally {
-        cases: tally.cases.wrapping_add(1),
-        mended: tally.mended.wrapping_add(mended),
+impl Tally {
+    // One burst more.
+    fn add(&mut self, mended: bool) {
+        self.cases = self.cases.wrapping_add(1);
+        self.mended = self.mended.wrapping_add(u32::from(mended));
     }
 }
 
-// The tally with the patterns of one window more.
-fn window(
-    tally: Tally,
-    code: Code,
-    patterns: Patterns,
-    first: u32,
-    rows: &[u32],
-    sent: &[u32],
-    bits: &[u8],
-) -> Tally {
-    let mut t = tally;
-    let mut pattern = patterns.lowest;
-    while pattern < patterns.limit {
-        t = counted(t, mends(code, Burst { first, pattern }, rows, sent, bits));
-        pattern += 1;
-    }
-    t
-}
-
-// The tally of so many windows, each of which starts one bit later.
-fn windows(
-    count: u32,
-    code: Code,
-    patterns: Patterns,
-    rows: &[u32],
-    sent: &[u32],
-    bits: &[u8],
-) -> Tally {
-    let mut t = Tally {
-        cases: 0,
-        mended: 0,
-    };
-    let mut first: u32 = 0;
-    while first < count {
-        t = window(t, code, patterns, first, rows, sent, bits);
-        first += 1;
-    }
-    t
-}
-
-// Every pattern of so many bits, or the one of all ones.
-fn patterns_of(width: u32, every: bool) -> Patterns {
-    let limit = 1u32 << (width % 32);
-    if every {
-        return Patterns { lowest: 0, limit };
-    }
-    Patterns {
-        lowest: limit.wrapping_sub(1),
-        limit,
-    }
-}
-
-// In the record 1 for every pattern, 0 for all ones, follows the words.
-pub(crate) fn call(
-    rt: &(impl Input + Print),
+// The code with its radius, the codewords sent, how many, and their bits.
+#[derive(Clone, Copy)]
+struct Sent<'a> {
     n: u32,
     k: u32,
+    rows: &'a [u32],
     radius: u32,
-    rows: &[u32],
-    sent: &[u32],
-) {
-    let depth = (sent.len() % 4294967296) as u32;
-    let places = product(depth, n);
-    let width = product(depth, radius);
-    let patterns = patterns_of(width, number(rt) == 1);
-    let mut buffer = [UNUSED_COUNT; SLOTS];
-    let size = io::count(places as isize, &buffer);
-    let bits = &mut buffer[..size];
-    interleave(n, k, rows, sent, bits);
-    let last = places.wrapping_sub(width);
-    let code = Code {
+    words: &'a [u32],
+    depth: u32,
+    bits: &'a [u8],
+}
+
+impl Sent<'_> {
+    // How many places of word i are changed: place j travels as bit number depth * j + i.
+    fn hits(&self, burst: Burst, i: u32) -> usize {
+        let bit = |j| self.depth.wrapping_mul(j).wrapping_add(i);
+        (0..self.n).filter(|j| burst.hits(bit(*j))).count()
+    }
+
+    // The bits as they arrive.
+    fn arrive(&self, burst: Burst, list: &mut [u8]) {
+        for ((b, slot), bit) in (0u32..).zip(list.iter_mut()).zip(self.bits) {
+            *slot = *bit ^ u8::from(burst.hits(b));
+        }
+    }
+
+    // Whether each answer is the word sent, and its count the number of the word's changed places.
+    fn comes_back(&self, burst: Burst, words: &[u32], counts: &[u8]) -> bool {
+        let answers = words.iter().zip(counts);
+        (0u32..).zip(self.words).zip(answers).all(|((i, sent), (word, count))| {
+            *word == *sent && usize::from(*count) == self.hits(burst, i)
+        })
+    }
+
+    // Whether the burst is mended.
+    fn mends(&self, burst: Burst) -> bool {
+        let mut buffer = [0u8; SLOTS];
+        let mut words = [UNUSED; SLOTS];
+        let mut counts = [UNUSED_COUNT; SLOTS];
+        let mut work = [UNUSED_ENTRY; ENTRIES];
+        let bits = start(&mut buffer, self.bits.len());
+        self.arrive(burst, bits);
+        decode(
+            self.n,
+            self.k,
+            self.rows,
+            self.radius,
+            self.words.len(),
+            bits,
+            &mut words,
+            &mut counts,
+            &mut work,
+        );
+        self.comes_back(burst, &words, &counts)
+    }
+
+    // Adds the patterns of one window, from the lowest on below the limit.
+    fn window(&self, tally: &mut Tally, first: u32, lowest: u32, limit: u32) {
+        for pattern in lowest..limit {
+            tally.add(self.mends(Burst { first, pattern }));
+        }
+    }
+
+    // Every pattern, or only the one of all ones, in each window.
+    fn tally(&self, every: bool) -> Tally {
+        let width = self.depth.wrapping_mul(self.radius);
+        let windows = self
+            .depth
+            .wrapping_mul(self.n)
+            .wrapping_sub(width)
+            .wrapping_add(1);
+        let limit = 1u32.wrapping_shl(width);
+        let lowest = if every { 0 } else { limit.wrapping_sub(1) };
+        let mut tally = Tally {
+            cases: 0,
+            mended: 0,
+        };
+        for first in 0..windows {
+            self.window(&mut tally, first, lowest, limit);
+        }
+        tally
+    }
+}
+
+// The words follow the matrix in the record, then 1 for every pattern, 0 for all ones.
+pub(crate) fn call(rt: &(impl Input + Print), record: &Record) {
+    let Record {
         n,
         k,
+        x: radius,
+        rows,
+    } = *record;
+    let mut buffer = [0u32; SLOTS];
+    let words = list(rt, &mut buffer);
+    let every = number(rt) == 1;
+    let depth = u32::try_from(words.len()).unwrap_or(0);
+    let mut buffer = [UNUSED_COUNT; SLOTS];
+    let bits = start(&mut buffer, depth.wrapping_mul(n) as usize);
+    interleave(n, k, rows, words, bits);
+    let sent = Sent {
+        n,
+        k,
+        rows,
         radius,
+        words,
         depth,
+        bits,
     };
-    let t = windows(last.wrapping_add(1), code, patterns, rows, sent, bits);
-    item(rt, t.cases);
-    item(rt, t.mended);
+    let tally = sent.tally(every);
+    item(rt, tally.cases);
+    item(rt, tally.mended);
 }

@@ -1,153 +1,129 @@
 // Operations 42, 43, 52 and 53: every check beside the same data, and a codeword changed in one, two or three places, of the (72,64) code
 // by its own calls and of the codes of 16, 32 and 64 data bits by their width.
-use crate::print::{flag, item};
+use crate::print::item;
+use crate::records::Entry;
 use hsiao::decoding::Decoding;
-use hsiao::{Word, decode, encode};
+use hsiao::{Word, decode, encode, widths};
 
-// The width, 0 for the calls of the (72,64) code; the check places, which come first; all places; and 2 to the number of check places.
+// The calls of a code: those of the (72,64) code, or those by a width.
 #[derive(Clone, Copy)]
-struct Code {
-    width: u32,
-    checks: u32,
-    places: u32,
-    limit: u32,
+pub(crate) enum Calls {
+    Own,
+    Width(u32),
 }
 
-// The code of a width; that of 0 is the (72,64) code without a width.
-fn code_of(width: u32) -> Code {
-    match width {
-        16 => Code {
-            width,
-            checks: 6,
-            places: 22,
-            limit: 64,
-        },
-        32 => Code {
-            width,
-            checks: 7,
-            places: 39,
-            limit: 128,
-        },
-        _ => Code {
-            width,
-            checks: 8,
-            places: 72,
-            limit: 256,
-        },
+impl Calls {
+    // The number of check places.
+    fn checks(self) -> u32 {
+        match self {
+            Calls::Width(16) => 6,
+            Calls::Width(32) => 7,
+            _ => 8,
+        }
     }
-}
 
-// The check bits of the data, by the call of the code.
-fn check_of(code: Code, data: u64) -> u8 {
-    if code.width == 0 {
-        return encode(data);
+    // The number of all places; the check places come first.
+    fn places(self) -> u32 {
+        match self {
+            Calls::Width(16) => 22,
+            Calls::Width(32) => 39,
+            _ => 72,
+        }
     }
-    let e = hsiao::widths::encode(code.width, data);
-    e.check
-}
 
-// The word and its count, by the call of the code.
-fn decoded(code: Code, w: Word) -> Decoding {
-    if code.width == 0 {
-        return decode(w);
+    // The codeword of the data.
+    fn encode(self, data: u64) -> Word {
+        let check = match self {
+            Calls::Own => encode(data),
+            Calls::Width(width) => widths::encode(width, data).check,
+        };
+        Word { check, data }
     }
-    let d = hsiao::widths::decode(code.width, w);
-    let word = d.word;
-    let count = d.count;
-    Decoding { word, count }
-}
 
-// The word with place p changed.
-fn changed(code: Code, w: Word, p: u32) -> Word {
-    if p < code.checks {
-        let check = w.check ^ (1u8 << (p % 8));
-        let data = w.data;
-        return Word { check, data };
+    // The word and its count.
+    fn decode(self, received: Word) -> Decoding {
+        match self {
+            Calls::Own => decode(received),
+            Calls::Width(width) => {
+                let d = widths::decode(width, received);
+                Decoding {
+                    word: d.word,
+                    count: d.count,
+                }
+            }
+        }
     }
-    let check = w.check;
-    let data = w.data ^ (1u64 << ((p - code.checks) % 64));
-    Word { check, data }
-}
 
-// 1 where the word received is answered so.
-fn answered(code: Code, received: Word, answer: Word, count: u8) -> u32 {
-    let d = decoded(code, received);
-    let c = d.word;
-    flag(c.check == answer.check && c.data == answer.data && d.count == count)
-}
-
-// How many places can be changed so that the codeword comes back with count 1.
-fn returned(code: Code, w: Word) -> u32 {
-    let mut n: u32 = 0;
-    let mut p: u32 = 0;
-    while p < code.places {
-        n = n.wrapping_add(answered(code, changed(code, w, p), w, 1));
-        p += 1;
+    // The word with place p changed.
+    fn changed(self, w: Word, p: u32) -> Word {
+        match p.checked_sub(self.checks()) {
+            None => Word {
+                check: w.check ^ 1u8.wrapping_shl(p),
+                data: w.data,
+            },
+            Some(p) => Word {
+                check: w.check,
+                data: w.data ^ 1u64.wrapping_shl(p),
+            },
+        }
     }
-    n
-}
 
-// 1 where the word is far, and answered unchanged.
-fn stays(code: Code, w: Word) -> u32 {
-    answered(code, w, w, 255)
-}
-
-// How many places from `first` on can be changed so that the word is far.
-fn far(code: Code, w: Word, first: u32) -> u32 {
-    let mut n: u32 = 0;
-    let mut p = first;
-    while p < code.places {
-        n = n.wrapping_add(stays(code, changed(code, w, p)));
-        p += 1;
+    // Whether the word received is answered so.
+    fn answers(self, received: Word, answer: Word, count: u8) -> bool {
+        let d = self.decode(received);
+        d.word.check == answer.check && d.word.data == answer.data && d.count == count
     }
-    n
-}
 
-// The same for pairs of places from `first` on.
-fn far_pairs(code: Code, w: Word, first: u32) -> u32 {
-    let mut n: u32 = 0;
-    let mut p = first;
-    while p < code.places {
-        n = n.wrapping_add(far(code, changed(code, w, p), p + 1));
-        p += 1;
+    // Whether the word with place p changed is far, and answered unchanged.
+    fn is_far(self, w: Word, p: u32) -> bool {
+        let received = self.changed(w, p);
+        self.answers(received, received, 255)
     }
-    n
+
+    // How many places can be changed so that the codeword comes back with count 1.
+    fn returned(self, w: Word) -> usize {
+        (0..self.places())
+            .filter(|p| self.answers(self.changed(w, *p), w, 1))
+            .count()
+    }
+
+    // How many places from `first` on can be changed so that the word is far.
+    fn far(self, w: Word, first: u32) -> usize {
+        (first..self.places())
+            .filter(|p| self.is_far(w, *p))
+            .count()
+    }
+
+    // The same for pairs of places from `first` on.
+    fn far_pairs(self, w: Word, first: u32) -> usize {
+        (first..self.places())
+            .map(|p| self.far(self.changed(w, p), p + 1))
+            .fold(0, usize::wrapping_add)
+    }
 }
 
 // Whether the codeword is clean, how many single changes come back, how many pairs are far, and how many triples with place 0.
-fn sent(rt: &impl Print, code: Code, data: u64) {
-    let check = check_of(code, data);
-    let w = Word { check, data };
-    item(rt, answered(code, w, w, 0));
-    item(rt, returned(code, w));
-    item(rt, far_pairs(code, w, 0));
-    item(rt, far_pairs(code, changed(code, w, 0), 1));
+pub(crate) fn changes(rt: &impl Print, calls: Calls, data: u64) {
+    let w = calls.encode(data);
+    item(rt, u8::from(calls.answers(w, w, 0)));
+    item(rt, calls.returned(w));
+    item(rt, calls.far_pairs(w, 0));
+    item(rt, calls.far_pairs(calls.changed(w, 0), 1));
 }
 
-// 1 where the check beside the data gives this count.
-fn has_count(code: Code, data: u64, check: u32, count: u32) -> u32 {
-    let check = (check % 256) as u8;
-    let d = decoded(code, Word { check, data });
-    flag(d.count as u32 == count)
-}
-
-// How many checks do.
-fn with_count(code: Code, data: u64, count: u32) -> u32 {
-    let mut n: u32 = 0;
-    let mut check: u32 = 0;
-    while check < code.limit {
-        n = n.wrapping_add(has_count(code, data, check, count));
-        check += 1;
-    }
-    n
-}
-
-// The number of checks with this count, or the changes.
-pub(crate) fn call(rt: &impl Print, changes: bool, width: u32, data: u64, count: u32) {
-    let code = code_of(width);
-    if changes {
-        sent(rt, code, data);
-    } else {
-        item(rt, with_count(code, data, count));
-    }
+// How many checks beside the data give this count.
+pub(crate) fn with_count(rt: &impl Print, calls: Calls, data: u64, count: u32) {
+    let found = |check| calls
+        .decode(Word {
+            check: u8::of(check),
+            data,
+        })
+        .count;
+    let checks = 0..1u32.wrapping_shl(calls.checks());
+    item(
+        rt,
+        checks
+            .filter(|check| u32::from(found(*check)) == count)
+            .count(),
+    );
 }

@@ -10,6 +10,7 @@ mod golay_patterns; // every message and every error pattern of it
 mod hsiao_calls; // operations of the (72,64) code
 mod hsiao_changes; // words changed in up to three places, of this code and of those of 16, 32 and 64 data bits
 mod interleaved_calls; // operations on a matrix and interleaved words
+mod lent; // lists lent to a call
 mod matrix_calls; // operations on a matrix
 mod number_calls; // operations on two words or numbers
 mod print; // what a line is made of
@@ -21,11 +22,11 @@ const MAX_RECORDS: usize = 100000;
 
 // One record after another, until the input ends.
 fn main(rt: HostRuntime) {
-    let mut left = MAX_RECORDS;
-    while 0 < left {
-        if !records::record(&rt) {
+    for _ in 0..MAX_RECORDS {
+        let Some(title) = records::title(&rt) else {
             return;
-        }
-        left -= 1;
+        };
+        print::text(&rt, &title);
+        records::print_call(&rt);
     }
 }

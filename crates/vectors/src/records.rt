@@ -1,129 +1,103 @@
 // What a record is made of: 16 bytes of text that are printed, line breaks among them, an operation of one byte, numbers of four bytes,
 // high byte first, and lists, each after its length. Operation 0 has the text alone.
-ghost use Rattle.std.specs.Prelude.{◌<◌};
-ghost use Rattle.io.specs.Counts.{IsPrefixLen};
-
 use crate::{
-    batch_calls, golay_calls, hsiao_calls, interleaved_calls, matrix_calls, number_calls, print,
+    batch_calls, golay_calls, hsiao_calls, interleaved_calls, matrix_calls, number_calls,
     width_calls,
 };
+use std::fmt::Display;
 use streams::read_full;
 
-// The most entries of a list, and of a working list.
+// The most entries of a list.
 pub(crate) const SLOTS: usize = 600;
 
-pub(crate) const ENTRIES: usize = 4200;
-
-// A byte as a number.
-pub(crate) fn wide(x: u8) -> u32
-    ensures { result < 256 }
-{
-    x as u32
-}
-
-// The next byte of the input.
-fn byte(rt: &impl Input) -> u8 {
-    let mut b = [0u8; 1];
-    read_full(&mut rt.reader(), &mut b);
-    b[0]
-}
-
-// The next number of two bytes, high byte first.
-fn half(rt: &impl Input) -> u32
-    ensures { result < 65536 }
-{
-    let mut b = [0u8; 2];
-    read_full(&mut rt.reader(), &mut b);
-    wide(b[0]) * 256 + wide(b[1])
+// The three numbers of a record and its list: mostly a matrix and a number or word beside it.
+#[derive(Clone, Copy)]
+pub(crate) struct Record<'a> {
+    pub(crate) n: u32,
+    pub(crate) k: u32,
+    pub(crate) x: u32,
+    pub(crate) rows: &'a [u32],
 }
 
 // The next number of four bytes, high byte first.
 pub(crate) fn number(rt: &impl Input) -> u32 {
-    let high = half(rt);
-    high * 65536 + half(rt)
+    let mut bytes = [0u8; 4];
+    read_full(&mut rt.reader(), &mut bytes);
+    u32::from_be_bytes(bytes)
 }
 
-// A list, at the start of the buffer; answers its length.
-pub(crate) fn list(rt: &impl Input, buffer: &mut [u32]) -> usize
-    ensures { IsPrefixLen result buffer.new }
-{
-    let size = number(rt) as usize;
-    if buffer.len() < size {
-        return 0;
-    }
-    let mut i: usize = 0;
-    while i < size {
-        buffer[i] = number(rt);
-        i += 1;
-    }
-    size
+// An entry of a list: it stands in the input as a number, whose lowest byte a small one takes.
+pub(crate) trait Entry: Copy + PartialEq + Display + Into<u32> {
+    fn of(number: u32) -> Self;
 }
 
-// A number of one byte.
-fn small(rt: &impl Input) -> u8 {
-    (number(rt) % 256) as u8
+impl Entry for u8 {
+    fn of(number: u32) -> u8 {
+        number.to_le_bytes()[0]
+    }
 }
 
-// A list of such numbers, in the same way.
-pub(crate) fn bytes(rt: &impl Input, buffer: &mut [u8]) -> usize
-    ensures { IsPrefixLen result buffer.new }
-{
-    let size = number(rt) as usize;
-    if buffer.len() < size {
-        return 0;
+impl Entry for u32 {
+    fn of(number: u32) -> u32 {
+        number
     }
-    let mut i: usize = 0;
-    while i < size {
-        buffer[i] = small(rt);
-        i += 1;
-    }
-    size
 }
 
-// How many slots of the list are lent.
-pub(crate) fn slots(rt: &impl Input, list: &[u32]) -> usize
-    ensures { IsPrefixLen result list.now }
-{
-    let size = number(rt) as usize;
-    if list.len() < size {
-        return 0;
-    }
-    size
+// So many slots at the start of the list; none where it has fewer.
+pub(crate) fn start<T>(list: &mut [T], size: usize) -> &mut [T] {
+    let within = if size <= list.len() { size } else { 0 };
+    &mut list[..within]
 }
 
-// The operations by their tens.
-fn dispatch(rt: &(impl Input + Print), operation: u8, n: u32, k: u32, x: u32, rows: &[u32]) {
+// As many as the next number says.
+pub(crate) fn lent<'a, T>(rt: &impl Input, list: &'a mut [T]) -> &'a mut [T] {
+    start(list, number(rt) as usize)
+}
+
+// A list after its length, at the start of the buffer; none where the buffer is shorter.
+pub(crate) fn list<'a, T: Entry>(rt: &impl Input, buffer: &'a mut [T]) -> &'a [T] {
+    let list = lent(rt, buffer);
+    for slot in list.iter_mut() {
+        *slot = T::of(number(rt));
+    }
+    list
+}
+
+// The operations by their tens. Each number is matched once, beside its call: a name for it would stand between the two and say the same.
+fn dispatch(rt: &(impl Input + Print), operation: u8, record: &Record) {
     match operation / 10 {
-        0 => print::item(rt, number_calls::call(operation, n, k)),
-        1 => matrix_calls::call(rt, operation, n, k, x, rows),
-        2 => batch_calls::call(rt, operation, n, k, x, rows),
-        3 => golay_calls::call(rt, operation, n, k),
-        4 => hsiao_calls::call(rt, operation, n, k, x),
-        5 => width_calls::call(rt, operation, n, k, x, rows),
-        _ => interleaved_calls::call(rt, operation, n, k, x, rows),
+        0 => number_calls::call(rt, operation, record.n, record.k),
+        1 => matrix_calls::call(rt, operation, record),
+        2 => batch_calls::call(rt, operation, record),
+        3 => golay_calls::call(rt, operation, record.n, record.k),
+        4 => hsiao_calls::call(rt, operation, record),
+        5 => width_calls::call(rt, operation, record),
+        _ => interleaved_calls::call(rt, operation, record),
     }
 }
 
-// Three numbers and a matrix, and what follows for the operation.
+// Three numbers and a list, and what follows for the operation.
 fn call(rt: &(impl Input + Print), operation: u8) {
     let n = number(rt);
     let k = number(rt);
     let x = number(rt);
     let mut buffer = [0u32; SLOTS];
-    let size = list(rt, &mut buffer);
-    dispatch(rt, operation, n, k, x, &buffer[..size]);
+    let rows = list(rt, &mut buffer);
+    dispatch(rt, operation, &Record { n, k, x, rows });
 }
 
-// One record; whether there was one.
-pub(crate) fn record(rt: &(impl Input + Print)) -> bool {
+// The text that begins the next record, if there is one.
+pub(crate) fn title(rt: &impl Input) -> Option<[u8; 16]> {
     let mut text = [0u8; 16];
-    if read_full(&mut rt.reader(), &mut text) == 0 {
-        return false;
+    let got = read_full(&mut rt.reader(), &mut text);
+    (got != 0).then_some(text)
+}
+
+// The operation after the text.
+pub(crate) fn print_call(rt: &(impl Input + Print)) {
+    let mut operation = [0u8; 1];
+    read_full(&mut rt.reader(), &mut operation);
+    if operation[0] != 0 {
+        call(rt, operation[0]);
     }
-    print::text(rt, &text);
-    let operation = byte(rt);
-    if operation != 0 {
-        call(rt, operation);
-    }
-    true
 }

@@ -1,51 +1,39 @@
 // Operations 50 to 53, of the codes of 16, 32 and 64 data bits: data in two numbers, the high one first, the width, and as the entry of a
 // list a check or a count, which is printed first.
-use crate::hsiao_calls::{joined, word};
-use crate::hsiao_changes;
-use crate::print::{answer, item, long};
+use crate::hsiao_calls::{data_of, word, word_of};
+use crate::hsiao_changes::{Calls, changes, with_count};
+use crate::print::{answer, item};
+use crate::records::Record;
 use hsiao::Word;
+use hsiao::widths::{decode, encode, message};
 
 // The check bits of the data, after the answer.
 fn encoded(rt: &impl Print, width: u32, data: u64) {
-    let e = hsiao::widths::encode(width, data);
-    let a = e.answer;
-    answer(rt, a);
-    item(rt, e.check as u32);
+    let e = encode(width, data);
+    answer(rt, e.answer);
+    item(rt, e.check);
 }
 
 // The answer with the word and its count, and what is read back from the word as received.
 fn decoded(rt: &impl Print, width: u32, w: Word) {
-    let d = hsiao::widths::decode(width, w);
-    let a = d.answer;
-    let c = d.word;
-    answer(rt, a);
-    word(rt, c);
-    item(rt, d.count as u32);
-    let r = hsiao::widths::message(width, w);
-    let b = r.answer;
-    answer(rt, b);
-    long(rt, r.data);
+    let d = decode(width, w);
+    answer(rt, d.answer);
+    word(rt, d.word);
+    item(rt, d.count);
+    let r = message(width, w);
+    answer(rt, r.answer);
+    item(rt, r.data);
 }
 
-// The entry, or 0 where there is none.
-fn beside(list: &[u32]) -> u32 {
-    if list.len() == 0 {
-        return 0;
-    }
-    list[0]
-}
-
-// The operations 50 and 51; the others change places.
-pub(crate) fn call(rt: &impl Print, operation: u8, high: u32, low: u32, width: u32, list: &[u32]) {
-    let data = joined(high, low);
-    let x = beside(list);
+pub(crate) fn call(rt: &impl Print, operation: u8, record: &Record) {
+    let data = data_of(record);
+    let width = record.x;
+    let x = record.rows.first().copied().unwrap_or(0);
     item(rt, x);
     match operation {
         50 => encoded(rt, width, data),
-        51 => {
-            let check = (x % 256) as u8;
-            decoded(rt, width, Word { check, data });
-        }
-        _ => hsiao_changes::call(rt, operation == 53, width, data, x),
+        51 => decoded(rt, width, word_of(data, x)),
+        53 => changes(rt, Calls::Width(width), data),
+        _ => with_count(rt, Calls::Width(width), data, x),
     }
 }

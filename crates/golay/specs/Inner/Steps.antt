@@ -1,5 +1,5 @@
 -- 000's decoding steps: the error pattern of a syndrome, where one of at most three places has it.
-use Rattle.std.specs.Prelude.{◌≡◌, ◌≢◌, ℕ, ◌+◌, ◌^◌, ◌≤◌, ◌<◌}
+use Rattle.std.specs.Prelude.{◌≡◌, ℕ, Option, Some, None, ◌+◌, ◌^◌, ◌≤◌, ◌<◌}
 use Rattle.coding.specs.Word.{◌⊕◌, weight}
 use Rattle.coding.specs.Matrix.{encode}
 use Rattle.coding.specs.Inner.SystematicSyndrome.{systematic_syndrome}
@@ -11,16 +11,12 @@ pub record Pattern (s e : ℕ) : Type 0 where
   pub has : systematic_syndrome 12 golay_checks e ≡ s
   pub light : weight e ≤ 3
 
--- stands for no pattern: four ones
-abbrev pub no_pattern : ℕ
-no_pattern = 15
+-- such a pattern, or there is none, of check places x and message places y, with at most one place in y
+abbrev pub FewInMessage : ℕ → Option ℕ → Type 0
+FewInMessage s (Some e) = Pattern s e
+FewInMessage s None = (x y : ℕ) → y < 2 ^ 12 → x ⊕ encode golay_checks y ≡ s → weight y ≤ 1 → 3 < weight x + weight y
 
--- e is such a pattern, or there is none, of check places x and message places y, with at most one place in y
-pub record FewInMessage (s e : ℕ) : Type 0 where
-  pub found : e ≢ no_pattern → Pattern s e
-  pub none : e ≡ no_pattern → (x y : ℕ) → y < 2 ^ 12 → x ⊕ encode golay_checks y ≡ s → weight y ≤ 1 → 3 < weight x + weight y
-
--- e is such a pattern, or there is none
-pub record ErrorPattern (s e : ℕ) : Type 0 where
-  pub found : e ≢ no_pattern → Pattern s e
-  pub none : e ≡ no_pattern → (d : ℕ) → d < 2 ^ 24 → systematic_syndrome 12 golay_checks d ≡ s → 3 < weight d
+-- such a pattern, or there is none
+abbrev pub ErrorPattern : ℕ → Option ℕ → Type 0
+ErrorPattern s (Some e) = Pattern s e
+ErrorPattern s None = (d : ℕ) → d < 2 ^ 24 → systematic_syndrome 12 golay_checks d ≡ s → 3 < weight d

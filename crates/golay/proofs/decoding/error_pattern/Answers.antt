@@ -1,14 +1,12 @@
--- A pattern of the second turn is one with its halves exchanged; where neither turn has one there is none.
-use Rattle.std.proofs.Common.{arith}
-use Rattle.golay.proofs.PatternLaws.{tried_again, tried_second}
+-- A pattern of s times P is one of s with its halves exchanged; where neither has one there is none.
+use Rattle.golay.proofs.PatternLaws.{sum_lt, error_none, exchanged-pattern}
 use Rattle.golay.proofs.decoding.error_pattern.Goals as goal
 
-pub returns-then-e-ne-NO_PATTERN : goal.returns-then-e-ne-NO_PATTERN
-returns-then-e-ne-NO_PATTERN c =
-    tried_second _ _ _ c.loop-turn.invariant _ c.requires (omega (arith, c.if-turn-eq0.false, c.loop-turn-test.true))
-    (c.few_in_message-e.ensures.found c.if-e-ne-NO_PATTERN.true)
+pub few_in_message-requires-2 : goal.few_in_message-requires-2
+few_in_message-requires-2 c = rw c.check_sum.ensures (sum_lt c.args.s)
 
-pub loop-turn-preserved : goal.loop-turn-preserved
-loop-turn-preserved c =
-    rw c.check_sum-t.ensures
-    (tried_again _ _ _ c.loop-turn.invariant (omega (arith, c.loop-turn-test.true)) (rw c.if-e-ne-NO_PATTERN.false at c.few_in_message-e.ensures))
+pub returns-in_err-e : goal.returns-in_err-e
+returns-in_err-e c = rw c.from_residual.ensures (error_none c.args.s c.in_default.ensures (rw c.check_sum.ensures at c.in_err-e.ensures))
+
+pub returns : goal.returns
+returns c = exchanged-pattern c.args.s _ c.requires (rw c.check_sum.ensures at c.in_ok-e.ensures)

@@ -15,13 +15,13 @@ returns-then-d-le-RADIUS c =
     (check-pattern _ (rw c.syndrome-s.ensures (syndrome-lt c.args.received)) (omega (arith, c.weight-d.ensures, c.if-d-le-RADIUS.true)))
     c.if-s-eq0.false
 
-pub error_pattern-e-requires : goal.error_pattern-e-requires
-error_pattern-e-requires c = rw c.syndrome-s.ensures (syndrome-lt c.args.received)
+pub error_pattern-requires : goal.error_pattern-requires
+error_pattern-requires c = rw c.syndrome-s.ensures (syndrome-lt c.args.received)
 
-pub returns-then-e-eq-NO_PATTERN : goal.returns-then-e-eq-NO_PATTERN
-returns-then-e-eq-NO_PATTERN c = far_is _ c.requires _ (rw c.syndrome-s.ensures at c.error_pattern-e.ensures) c.if-e-eq-NO_PATTERN.true
+pub returns-in-None : goal.returns-in-None
+returns-in-None c = far_is _ c.requires (rw c.syndrome-s.ensures at c.in-None.ensures)
 
-pub returns : goal.returns
-returns c =
-    ap₂ Mended c.sum-2.ensures c.weight.ensures
-    ∙ mended_is _ c.requires _ _ c.syndrome-s.ensures (c.error_pattern-e.ensures.found c.if-e-eq-NO_PATTERN.false) c.if-s-eq0.false
+pub returns-in-Some : goal.returns-in-Some
+returns-in-Some c =
+    ap₂ Mended c.sum-in-Some.ensures c.weight.ensures
+    ∙ mended_is _ c.requires _ _ c.syndrome-s.ensures c.in-Some.ensures c.if-s-eq0.false

@@ -1,5 +1,5 @@
 -- One place more leaves the whole, and the whole stays below 2 ^ 60.
-use Rattle.std.proofs.Common.{◌≡◌, ap, ap₂, ◌∙◌, ℕ, ◌+◌, ◌*◌, ◌/◌, ◌%◌, ◌^◌, ◌<◌, get_or, arith, rules}
+use Rattle.std.proofs.Common.{◌≡◌, ap, ap₂, ◌∙◌, ℕ, ◌+◌, ◌*◌, ◌/◌, ◌%◌, ◌^◌, ◌<◌, get_or, arith}
 use native.Mathlib.Nat.{div-eq_of_lt, lt_of_le_of_lt}
 use lib.Bits.{bit_and, and_mask}
 use lib.Pow.{shr-shr}
@@ -25,22 +25,21 @@ step-lt s sum m j r h e = lt_of_le_of_lt (omega (arith, step sum m j h _ e)) (ov
 pub overflow_add-sum : goal.overflow_add-sum
 unfolding place_words
 overflow_add-sum c =
-    let l = c.loop-j in
-    omega (arith, step-lt c.args.s l.sum l.m l.j c.requires c.loop-j-test.true l.invariant.2)
+    let l = c.loop-lanes in
+    omega (arith, step-lt c.args.s l.sum l.m l.lanes-index c.requires (omega arith) l.invariant.1)
 
-pub loop-j-preserved : goal.loop-j-preserved
+pub loop-lanes-preserved : goal.loop-lanes-preserved
 unfolding place_words
-loop-j-preserved c =
-    let l = c.loop-j in (
-      search rules,
-      ap (λ (x : ℕ). x / 2) l.invariant.1 ∙ shr-shr c.args.s l.j 1,
-      step l.sum l.m l.j c.loop-j-test.true _ l.invariant.2,
+loop-lanes-preserved c =
+    let l = c.loop-lanes in (
+      ap (λ (x : ℕ). x / 2) l.invariant.0 ∙ shr-shr c.args.s l.lanes-index 1,
+      step l.sum l.m l.lanes-index (omega arith) _ l.invariant.1,
     )
 
 pub returns : goal.returns
 returns c =
-    let l = c.loop-j in
-    let end : l.j ≡ 12 = omega (arith, l.invariant.0, c.loop-j-test.false) in
-    let none : l.m ≡ 0 = l.invariant.1 ∙ ap (λ (j : ℕ). c.args.s / 2 ^ j) end ∙ div-eq_of_lt c.requires in
-    let rest : left l.m l.j ≡ 0 = ap (λ (m : ℕ). left m l.j) none ∙ overlap_none golay_checks l.j in
-    omega (arith, rest, l.invariant.2)
+    let l = c.loop-lanes in
+    let end : l.lanes-index ≡ 12 = omega arith in
+    let none : l.m ≡ 0 = l.invariant.0 ∙ ap (λ (j : ℕ). c.args.s / 2 ^ j) end ∙ div-eq_of_lt c.requires in
+    let rest : left l.m l.lanes-index ≡ 0 = ap (λ (m : ℕ). left m l.lanes-index) none ∙ overlap_none golay_checks l.lanes-index in
+    omega (arith, rest, l.invariant.1)

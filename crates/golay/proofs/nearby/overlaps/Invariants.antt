@@ -1,5 +1,5 @@
--- `golay::nearby::overlaps`: the sum so far, and the places from j on, make the places in common.
-use Rattle.std.proofs.Common.{ℕ, ◌≡◌, ◌+◌, ◌-◌, ◌/◌, ◌^◌, ◌≤◌}
+-- The sum so far, and the places that are left, make the places in common.
+use Rattle.std.proofs.Common.{ℕ, ◌≡◌, ◌+◌, ◌/◌, ◌^◌}
 use Rattle.std.specs.Int.Bits.{bit_and}
 use Rattle.coding.specs.Word.{weight}
 use Rattle.golay_code.specs.Golay.{golay_checks}
@@ -10,9 +10,6 @@ use Rattle.golay.proofs.nearby.overlaps.Given as goal
 abbrev pub left : ℕ → ℕ → ℕ
 left m j = lanes (λ p. weight (bit_and m (p / 2 ^ j))) golay_checks
 
-abbrev pub invariant-loop-j : goal.invariant-loop-j
-invariant-loop-j l = (l.j ≤ 12) × (l.m ≡ l.s / 2 ^ l.j) × (l.sum + left l.m l.j ≡ lanes (λ p. weight (bit_and l.s p)) golay_checks)
-
--- proposed from the loop's first test
-abbrev pub decreases-loop-j : goal.decreases-loop-j
-decreases-loop-j l = 12 - l.j
+abbrev pub invariant-loop-lanes : goal.invariant-loop-lanes
+invariant-loop-lanes l =
+    (l.m ≡ l.s / 2 ^ l.lanes-index) × (l.sum + left l.m l.lanes-index ≡ lanes (λ p. weight (bit_and l.s p)) golay_checks)

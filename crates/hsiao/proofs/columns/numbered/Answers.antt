@@ -5,7 +5,7 @@ use Rattle.hsiao.proofs.HsiaoTableLaws.{columns-odd, columns-length}
 use Rattle.hsiao.proofs.PlaceLaws.{number_below, number_hit, number_passed}
 use Rattle.hsiao.proofs.columns.numbered.Invariants.{hit}
 use Rattle.hsiao.proofs.columns.numbered.Goals as goal
-use Rattle.hsiao.proofs.columns.numbered.Goals.{then-table-i, else-table-i}
+use Rattle.hsiao.proofs.columns.numbered.Goals.{then-column-s, else-column-s}
 
 none_before : (s i : ℕ) → i < 64 → get_or columns i 0 ≡ s → (j : ℕ) → j < i → hit s j ≡ false
 none_before s i h e j l =
@@ -20,16 +20,14 @@ counted s i n h v e = number_hit _ _ v (none_before s i h e) (eq-eqb _ _ e)
 pub loop-i-preserved : goal.loop-i-preserved
 loop-i-preserved c =
     let l = c.loop-i in
-    let e : get_or c.args.table.now l.i 0 ≡ get_or columns l.i 0 = rw c.requires in (
-      omega arith,
-      elim c.if-table-i.branch [
-        | then-table-i w ↦ w.n-is ∙ (counted c.args.s l.i l.n c.loop-i-test.true l.invariant.1 (sym e ∙ w.if-table-i.true)).1
-        | else-table-i w ↦ w.n-is ∙ l.invariant.1 ∙ sym (number_passed _ l.i (ne_eqb _ _ (λ z. w.if-table-i.false (e ∙ z))))
-      ],
-    )
+    let e : get_or c.args.table.now l.i 0 ≡ get_or columns l.i 0 = rw c.requires in
+    elim c.if-column-s.branch [
+      | then-column-s w ↦ w.n-is ∙ (counted c.args.s l.i l.n (omega arith) l.invariant (sym e ∙ w.if-column-s.true)).1
+      | else-column-s w ↦ w.n-is ∙ l.invariant ∙ sym (number_passed _ l.i (ne_eqb _ _ (λ z. w.if-column-s.false (e ∙ z))))
+    ]
 
 pub returns : goal.returns
 returns c =
     let l = c.loop-i in
     let e : l.i ≡ length columns = omega (arith, columns-length) in
-    l.invariant.1 ∙ ap (number_below (hit c.args.s)) e
+    l.invariant ∙ ap (number_below (hit c.args.s)) e

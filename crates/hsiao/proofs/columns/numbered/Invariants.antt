@@ -1,5 +1,5 @@
 -- n is the number of the column s among the first i, 0 where it is not there.
-use Rattle.std.proofs.Common.{◌-◌, ◌≡◌, ℕ, ◌≤◌, Bool, eqb, get_or}
+use Rattle.std.proofs.Common.{◌≡◌, ℕ, Bool, eqb, get_or}
 use Rattle.hsiao.specs.Table.{columns}
 use Rattle.hsiao.proofs.PlaceLaws.{number_below}
 use Rattle.hsiao.proofs.columns.numbered.Given as goal
@@ -9,7 +9,4 @@ abbrev pub hit : ℕ → ℕ → Bool
 hit s j = eqb (get_or columns j 0) s
 
 abbrev pub invariant-loop-i : goal.invariant-loop-i
-invariant-loop-i l = (l.i ≤ 64) × (l.n ≡ number_below (hit l.s) l.i)
-
-abbrev pub decreases-loop-i : goal.decreases-loop-i
-decreases-loop-i l = 64 - l.i
+invariant-loop-i l = l.n ≡ number_below (hit l.s) l.i

@@ -1,48 +1,56 @@
 -- The causes of the matrix, then cause 5 by its minimum distance.
-use Rattle.std.proofs.Common.{◌≡◌, sym, subst, ◌∙◌, ℕ, List, Bool}
-use Rattle.coding.specs.Weight.{dmin}
+use Rattle.std.proofs.Common.{◌≡◌, sym, ap, ◌∙◌, ℕ, List, Bool}
+use Rattle.std.specs.Prelude.{Ok, unwrap_or}
 use Rattle.words.specs.Accepted.{matrix_answer}
-use Rattle.answers.specs.declared.answer.Answer.{Answer}
-use Rattle.answers.specs.declared.answer.Answer.TheVariants.{Done}
+use Rattle.words.proofs.AcceptedLaws.{accepted_in}
+use Rattle.answers.specs.Refusal.{Answer, done}
+use Rattle.answers.proofs.AnswerLaws.{handed_on, err_answered, answered_err, ok_answered, answered_ok}
 use Rattle.outcomes.specs.declared.ending.Reading.{Reading}
 use Rattle.judging.specs.Causes.{radius_answer, code_answer}
-use Rattle.judging.specs.Known.{asked, KnownPast}
+use Rattle.judging.specs.Known.{asked, known_of}
 use Rattle.judging.specs.declared.matrix.Known.{Known}
-use Rattle.judging.proofs.CauseLaws.{radius_same, asked-within, known_distance, known_positive, known_refused, known_on, at_matrix, at_radius}
+use Rattle.judging.proofs.CauseLaws.{radius_known, known_positive, dmin_positive, code_every_row, at_matrix, at_radius}
 use Rattle.judging.proofs.causes.known_past_5.Goals as goal
 
--- what the matrix told
-told : {asks asked : Bool} {n : ℕ} {rows : List ℕ} {tested : Answer} {r : Known} → asks ≡ asked → KnownPast asks n rows tested r
-    → KnownPast asked n rows tested r
-told {n = n} {rows = rows} {tested = tested} {r = r} e K = subst (λ (b : Bool). KnownPast b n rows tested r) e K
+pub returns-in_err-known : goal.returns-in_err-known
+returns-in_err-known c =
+    let m = c.args.matrix.now in
+    let e = answered_err _ _ _ (sym c.in_err-known.was ∙ c.known_past_4.ensures.known) in
+    record {
+      known = handed_on _ _ c.from_residual.ensures ∙ err_answered (code_answer m.n m.k m.rows.now c.args.reading) _ _ (sym (at_matrix m.n m.k m.rows.now c.args.reading _ e) ∙ e);
+      every_row = code_every_row m.n m.k m.rows.now c.args.reading c.known_past_4.ensures.every_row;
+    }
 
--- cause 5 decides
-decides : (n k : ℕ) (rows : List ℕ) (reading : Reading) (measure : Bool) (r : Known)
-    → KnownPast (asked reading measure) n rows (matrix_answer n k rows) r → r.answer ≡ Done → {b : Answer} → b ≡ radius_answer reading r.dmin
-    → b ≡ code_answer n k rows reading
-decides n k rows reading measure r K d e =
-    e ∙ radius_same reading measure _ (dmin rows) (known_distance K d) ∙ at_radius n k rows reading (sym K.answer ∙ d)
+-- past the causes of the matrix cause 5 decides
+decides : (n k : ℕ) (rows : List ℕ) (reading : Reading) (measure : Bool) {b : Bool} {x : Known} {u : ℕ} {a : Answer} → b ≡ asked reading measure
+    → x ≡ known_of b n rows → u ≡ unwrap_or x.dmin 1 → a ≡ radius_answer reading u → matrix_answer n k rows ≡ done → a ≡ code_answer n k rows reading
+decides n k rows reading measure f e g h d =
+    h ∙ ap (radius_answer reading) (g ∙ ap (λ (y : Known). unwrap_or y.dmin 1) (e ∙ ap (λ (z : Bool). known_of z n rows) f))
+    ∙ radius_known reading measure n rows ∙ at_radius n k rows reading d
 
-pub returns-in_default : goal.returns-in_default
-returns-in_default c =
-    let a = c.args in
-    let K = told c.asks.ensures c.known_past_4-c.ensures in
-    known_on K (K.answer ∙ at_matrix a.n a.k a.rows.now a.reading _ (sym K.answer ∙ c.in_default.is))
+pub radius_cause-requires : goal.radius_cause-requires
+radius_cause-requires c =
+    let m = c.args.matrix.now in
+    let (d, x) = answered_ok (matrix_answer m.n m.k m.rows.now) _ _ (sym c.in_ok-known.was ∙ c.known_past_4.ensures.known) in
+    let h = known_positive c.asks.result m.n m.rows.now (dmin_positive m.n m.k m.rows.now (accepted_in m.n m.k m.rows.now d)) in
+    rw (c.unwrap_or.ensures ∙ ap (λ (y : Known). unwrap_or y.dmin 1) x) h
 
-pub radius_cause-b-requires : goal.radius_cause-b-requires
-radius_cause-b-requires c ρ e =
-    known_positive c.args.k (told c.asks.ensures c.known_past_4-c.ensures) (asked-within c.args.reading c.args.measure ρ e) c.in-Done.is
-
-pub returns-in_default-b : goal.returns-in_default-b
-returns-in_default-b c =
-    let a = c.args in
-    let K = told c.asks.ensures c.known_past_4-c.ensures in
-    let d = decides a.n a.k a.rows.now a.reading a.measure _ K c.in-Done.is c.radius_cause-b.ensures in
-    known_refused _ (sym d ∙ c.in_default-b.is) (c.refused.ensures.0 ∙ d, c.refused.ensures.1, c.refused.ensures.2)
+pub returns-in_err-radius_cause : goal.returns-in_err-radius_cause
+returns-in_err-radius_cause c =
+    let m = c.args.matrix.now in
+    let (d, x) = answered_ok (matrix_answer m.n m.k m.rows.now) _ _ (sym c.in_ok-known.was ∙ c.known_past_4.ensures.known) in
+    let e = decides m.n m.k m.rows.now c.args.reading c.args.measure c.asks.ensures x c.unwrap_or.ensures c.radius_cause.ensures d in
+    record {
+      known = handed_on _ _ c.from_residual-in_err-radius_cause.ensures ∙ err_answered _ _ _ (sym e ∙ c.in_err-radius_cause.was);
+      every_row = code_every_row m.n m.k m.rows.now c.args.reading c.known_past_4.ensures.every_row;
+    }
 
 pub returns : goal.returns
 returns c =
-    let a = c.args in
-    let K = told c.asks.ensures c.known_past_4-c.ensures in
-    known_on K
-    (c.in-Done.is ∙ sym c.in-Done-b.is ∙ decides a.n a.k a.rows.now a.reading a.measure _ K c.in-Done.is c.radius_cause-b.ensures)
+    let m = c.args.matrix.now in
+    let (d, x) = answered_ok (matrix_answer m.n m.k m.rows.now) _ _ (sym c.in_ok-known.was ∙ c.known_past_4.ensures.known) in
+    let e = decides m.n m.k m.rows.now c.args.reading c.args.measure c.asks.ensures x c.unwrap_or.ensures c.radius_cause.ensures d in
+    record {
+      known = ap Ok (x ∙ ap (λ (z : Bool). known_of z m.n m.rows.now) c.asks.ensures) ∙ ok_answered _ _ (sym e ∙ c.in_ok-radius_cause.was);
+      every_row = code_every_row m.n m.k m.rows.now c.args.reading c.known_past_4.ensures.every_row;
+    }

@@ -1,5 +1,0 @@
--- `vectors::main` is safe and ends.
-use Rattle.vectors.proofs.main.Given as goal
-
-abbrev pub decreases-loop-left : goal.decreases-loop-left
-decreases-loop-left l = l.left
