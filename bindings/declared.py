@@ -87,7 +87,7 @@ def library_causes(text, enum, prefix):
     """Number and whether a value stands beside it, by name."""
     listed = once(r'^pub enum %s \{\n(.*?)^\}' % enum, text, 'enum ' + enum)
     valued = {m[1]: bool(m[2]) for m in (matched(r'(\w+)(\(usize\))?', part, 'cause') for part in parts(listed))}
-    body = once(r'^pub fn number\(.*?^\{\n(.*?)^\}', text, 'number')
+    body = once(r'^    pub fn number\(.*?^    \{\n(.*?)^    \}', text, 'number')
     numbers = dict(re.findall(r'^ +%s::(\w+)(?:\(_\))? => (\d+),$' % enum, body, re.M))
     if set(numbers) != set(valued):
         raise Unreadable('enum %s has other causes than numbers' % enum)

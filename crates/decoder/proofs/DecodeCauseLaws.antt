@@ -1,4 +1,4 @@
--- Laws of the causes 1 to 9 of Decode. Assumes nothing.
+-- Laws of the causes 1 to 9 of Decode.
 use mathlib.Core.Path.{◌≡◌, refl, sym, ◌∙◌}
 use mathlib.Core.List.{List}
 use Prim.Native.Nat.{ℕ, ◌-◌, ◌^◌, ◌≤◌, min}
@@ -9,17 +9,17 @@ use borrow.Author.Tests.{leb-true, le-leb, eq-eqb}
 use Rattle.coding.specs.Matrix.{Inside}
 use Rattle.coding.specs.Weight.{dmin}
 use Rattle.words.specs.Limits.{max_words, width}
-use Rattle.answers.specs.Refusal.{number_of, and_then, Between, if_done}
+use Rattle.answers.specs.Refusal.{Answer, done, number_of, and_then, Between}
+use Rattle.words.specs.Widest.{EveryWord}
+use Rattle.std.specs.Prelude.{Err}
 use Rattle.words.specs.Shape.{first_outside}
 use Rattle.words.specs.Accepted.{matrix_answer}
 use Rattle.words.proofs.AcceptedLaws.{matrix_passes}
 use Rattle.words.specs.Lists.{room_answer, list_answer}
 use Rattle.answers.specs.declared.answer.Refusal.{Refusal}
 use Rattle.answers.specs.declared.answer.Refusal.TheVariants.{ShortOutput, ShortWork}
-use Rattle.answers.specs.declared.answer.Answer.{Answer}
-use Rattle.answers.specs.declared.answer.Answer.TheVariants.{Done, Refused}
 use Rattle.answers.proofs.AnswerLaws.{unless_done, and_then_done, and_then_assoc, stays, goes}
-use Rattle.answers.proofs.AnswerLaws.{Numbered, Neither, neither, unless-numbered, and_then-numbered, numbered_as}
+use Rattle.answers.proofs.AnswerLaws.{Numbered, Neither, neither, unless-numbered, and_then-numbered, numbered_as, never, then_never}
 use Rattle.words.proofs.ShapeLaws.{inside_none}
 use Rattle.words.proofs.WordListLaws.{Listed, list_in, list-numbered, list_passes}
 use Rattle.judging.specs.Causes.{radius_answer, code_answer}
@@ -27,10 +27,6 @@ use Rattle.decoder.specs.Causes.{lists_answer, decode_answer}
 use Rattle.judging.proofs.CauseLaws.{radius-numbered, code_numbered}
 use Rattle.leaders.specs.Leaders.{work_answer}
 use Rattle.outcomes.specs.declared.ending.Reading.{Reading}
-
--- a refusal has no dmin beside it
-pub no_dmin : (a : Answer) (c : Refusal) (d : ℕ) → a ≡ Refused c → 0 ≡ if_done a d 0
-no_dmin a c d e = rw e refl
 
 -- ---- the groups in order
 
@@ -43,21 +39,29 @@ module _ (n k : ℕ) (rows : List ℕ) (reading : Reading) (words : List ℕ) (s
   unfolding decode_answer lists_answer
   eight_then_work = and_then_assoc (code_answer n k rows reading) (list_answer words n (min slots bytes)) _
 
-  pub at_eight : (c : Refusal) → first_eight ≡ Refused c → Refused c ≡ decode_answer n k rows reading words slots bytes room
+  pub at_eight : (c : Refusal) → first_eight ≡ Err c → Err c ≡ decode_answer n k rows reading words slots bytes room
   at_eight c e = sym e ∙ stays first_eight (work_answer room (2 ^ (n - k))) c e ∙ eight_then_work
 
   -- cause 9
-  pub at_work : first_eight ≡ Done → work_answer room (2 ^ (n - k)) ≡ decode_answer n k rows reading words slots bytes room
+  pub at_work : first_eight ≡ done → work_answer room (2 ^ (n - k)) ≡ decode_answer n k rows reading words slots bytes room
   at_work e = goes first_eight (work_answer room (2 ^ (n - k))) e ∙ eight_then_work
+
+  -- at 32 places neither 3 nor 7, where causes 1 to 8 give neither
+  pub every_passes : EveryWord n first_eight → EveryWord n (decode_answer n k rows reading words slots bytes room)
+  every_passes w e =
+      let (three, seven) = w e in
+      let last = work_answer room (2 ^ (n - k)) in
+      let (a, b) = never 3 7 last last refl (unless-numbered (Neither 3 7) (leb (2 ^ (n - k)) room) ShortWork done (neither 3 7 9 refl refl) tt) in
+      rw (sym eight_then_work) (then_never 3 first_eight last three a, then_never 7 first_eight last seven b)
 
   -- what is known when causes 1 to 9 have passed
   pub record Passed : Type 0 where
-    pub matrix : matrix_answer n k rows ≡ Done
-    pub radius : radius_answer reading (dmin rows) ≡ Done
+    pub matrix : matrix_answer n k rows ≡ done
+    pub radius : radius_answer reading (dmin rows) ≡ done
     pub listed : Listed words n (min slots bytes)
     pub work : 2 ^ (n - k) ≤ room
 
-  pub batch_in : decode_answer n k rows reading words slots bytes room ≡ Done → Passed
+  pub batch_in : decode_answer n k rows reading words slots bytes room ≡ done → Passed
   unfolding decode_answer code_answer lists_answer
   batch_in e =
       let (d, e2) = and_then_done (code_answer n k rows reading) _ e in
@@ -67,16 +71,16 @@ module _ (n k : ℕ) (rows : List ℕ) (reading : Reading) (words : List ℕ) (s
         matrix = a;
         radius = b;
         listed = list_in words n (min slots bytes) c;
-        work = leb-true (2 ^ (n - k)) room (unless_done (leb (2 ^ (n - k)) room) ShortWork Done e3).0;
+        work = leb-true (2 ^ (n - k)) room (unless_done (leb (2 ^ (n - k)) room) ShortWork done e3).0;
       }
 
 -- ---- the numbers of these causes
 
 room_numbered : (P : ℕ → Type 0) (results slots : ℕ) → P 8 → Numbered P (room_answer results slots)
-room_numbered P results slots h = unless-numbered P (leb results slots) ShortOutput Done h tt
+room_numbered P results slots h = unless-numbered P (leb results slots) ShortOutput done h tt
 
 work_numbered : (P : ℕ → Type 0) (room size : ℕ) → P 9 → Numbered P (work_answer room size)
-work_numbered P room size h = unless-numbered P (leb size room) ShortWork Done h tt
+work_numbered P room size h = unless-numbered P (leb size room) ShortWork done h tt
 
 lists_numbered : (n k : ℕ) (words : List ℕ) (slots bytes room : ℕ) → Numbered (Between 6 9) (lists_answer n k words slots bytes room)
 unfolding lists_answer
@@ -105,7 +109,7 @@ decode_numbered n k rows reading words slots bytes room =
     (lists_numbered n k words slots bytes room))
 
 pub refused_number : (n k : ℕ) (rows : List ℕ) (reading : Reading) (words : List ℕ) (slots bytes room : ℕ) (c : Refusal)
-    → decode_answer n k rows reading words slots bytes room ≡ Refused c → Between 1 9 (number_of c)
+    → decode_answer n k rows reading words slots bytes room ≡ Err c → Between 1 9 (number_of c)
 refused_number n k rows reading words slots bytes room c e = rw e at (decode_numbered n k rows reading words slots bytes room)
 
 -- neither 3 nor 7, where words are received

@@ -1,20 +1,18 @@
--- What Decode promises, put together from its causes and from what the lists hold. Assumes nothing.
+-- What Decode promises, put together from its causes and from what the lists hold.
 use mathlib.Core.Path.{◌≡◌, refl, sym, ap, ◌∙◌}
 use mathlib.Core.Logic.{inl, inr}
 use mathlib.Core.List.{List, ◌++◌, map}
 use Prim.Native.Nat.{ℕ, ◌-◌, ◌^◌, ◌≤◌, ◌<◌}
 use native.Mathlib.Omega.{arith}
-use lib.ListN.{length, get_or, take, drop, length-append}
-use lib.Seq.{take_at}
-use Rattle.coding.specs.Matrix.{Inside}
+use lib.ListN.{length, get_or, drop, length-append}
 use Rattle.coding.specs.Check.{checks, syndrome}
 use Rattle.coding.specs.Weight.{dmin}
-use Rattle.words.specs.Limits.{width}
+use Rattle.words.specs.Widest.{EveryWord}
 use Rattle.words.specs.Accepted.{Accepted}
 use Rattle.answers.specs.declared.answer.Refusal.{Refusal}
-use Rattle.answers.specs.declared.answer.Answer.{Answer}
-use Rattle.answers.specs.declared.answer.Answer.TheVariants.{Done, Refused}
-use Rattle.answers.proofs.AnswerLaws.{refused_done, never, never_done, kept, filled, written}
+use Rattle.answers.specs.Refusal.{Answer, done}
+use Rattle.std.specs.Prelude.{Err}
+use Rattle.answers.proofs.AnswerLaws.{refused_done, never_done, kept, filled, written}
 use Rattle.words.proofs.AcceptedLaws.{accepted_in}
 use Rattle.words.proofs.CodeLaws.{distance_is, syndrome-below, leader_at, every_leader}
 use Rattle.leaders.specs.Leaders.{leaders_list}
@@ -26,7 +24,7 @@ use Rattle.decoder.specs.Causes.{decode_answer}
 use Rattle.decoder.specs.Decoded.{Batch, Lent, Decoded}
 use Rattle.decoder.specs.Inner.SlotsBy.{word_by, count_by}
 use Rattle.judging.proofs.CauseLaws.{radius_in}
-use Rattle.decoder.proofs.DecodeCauseLaws.{Passed, batch_in, refused_number, decode_passes}
+use Rattle.decoder.proofs.DecodeCauseLaws.{Passed, batch_in, refused_number}
 use Rattle.decoder.proofs.SlotLaws.{slot_at, words_are, counts_are}
 
 -- the answer to a batch
@@ -34,14 +32,14 @@ abbrev pub answer_to : Batch → Lent → Answer
 answer_to B L = decode_answer B.n B.k B.rows B.reading B.words (length L.codewords) (length L.counts) (length L.work)
 
 -- a refusal leaves every list as it was
-pub decode_refused : (B : Batch) (L : Lent) → Inside width B.rows × Inside width B.words → (r : Answer) (c : Refusal) → r ≡ Refused c
-    → r ≡ answer_to B L → (after : Lent) → after ≡ L → Decoded B L r after
-decode_refused B L (f, g) r c e b after s =
+pub decode_refused : (B : Batch) (L : Lent) → EveryWord B.n (answer_to B L) → (r : Answer) (c : Refusal) → r ≡ Err c → r ≡ answer_to B L
+    → (after : Lent) → after ≡ L → Decoded B L r after
+decode_refused B L w r c e b after s =
     let numbered = refused_number B.n B.k B.rows B.reading B.words _ _ _ c (sym b ∙ e) in
     record {
       answer = b;
       either = inl (c, e, numbered, s);
-      every_word = λ w. never 3 7 _ r b (decode_passes B.n B.k B.rows B.reading B.words _ _ _ w f g);
+      every_word = rw b w;
       every_leader = every_leader B.n B.k B.rows;
       codewords = ap (λ (l : Lent). l.codewords) s ∙ kept r c e _ L.codewords;
       distances = ap (λ (l : Lent). l.counts) s ∙ kept r c e _ L.counts;
@@ -55,7 +53,7 @@ decode_refused B L (f, g) r c e b after s =
 
 -- ---- causes 1 to 9 have passed
 
-module _ (B : Batch) (L : Lent) (b : answer_to B L ≡ Done) where
+module _ (B : Batch) (L : Lent) (b : answer_to B L ≡ done) where
   passed : Passed B.n B.k B.rows B.reading B.words (length L.codewords) (length L.counts) (length L.work)
   passed = batch_in B.n B.k B.rows B.reading B.words _ _ _ b
 
@@ -70,7 +68,7 @@ module _ (B : Batch) (L : Lent) (b : answer_to B L ≡ Done) where
       → after.codewords ≡ map (word_of B.n B.rows B.reading) B.words ++ drop (length B.words) L.codewords
       → after.counts ≡ map (count_of B.n B.rows B.reading) B.words ++ drop (length B.words) L.counts
       → after.work ≡ leaders_list B.n B.k B.rows ++ drop (2 ^ (B.n - B.k)) L.work
-      → Decoded B L Done after
+      → Decoded B L done after
   decode_done after eo ec ew = record {
     answer = sym b;
     either = inr refl;
@@ -96,32 +94,23 @@ module _ (B : Batch) (L : Lent) (b : answer_to B L ≡ Done) where
 
   -- ---- the leaders stand in the working list
 
-  module _ (hs work : List ℕ) (size : ℕ) (are : hs ≡ checks B.n B.rows)
-      (ew : work ≡ leaders_list B.n B.k B.rows ++ drop (2 ^ (B.n - B.k)) L.work) (z : size ≡ 2 ^ (B.n - B.k)) where
-    leaders_size : length (leaders_list B.n B.k B.rows) ≡ size
-    leaders_size = leaders_long B.n B.k B.rows A ∙ sym z
-
-    leaders_lent : take size work ≡ leaders_list B.n B.k B.rows
-    leaders_lent = ap (take size) ew ∙ take_at (leaders_list B.n B.k B.rows) _ size leaders_size
-
-    pub lent_long : length (take size work) ≡ size
-    lent_long = ap length leaders_lent ∙ leaders_size
-
-    pub work_long : size ≤ length work
-    work_long = omega (arith, ap length ew ∙ length-append (leaders_list B.n B.k B.rows) _, leaders_size)
-
-    pub syndromes_fit : (i : ℕ) → i < length B.words → syndrome hs (get_or B.words i 0) < length (take size work)
-    syndromes_fit i h = rw (lent_long, z, are) (syndrome-below B.n B.k B.rows A (get_or B.words i 0))
+  module _ (hs work : List ℕ) (are : hs ≡ checks B.n B.rows) (ew : work ≡ leaders_list B.n B.k B.rows ++ drop (2 ^ (B.n - B.k)) L.work) where
+    pub syndromes_fit : (i : ℕ) → i < length B.words → syndrome hs (get_or B.words i 0) < length work
+    syndromes_fit i h =
+        rw are (omega (
+          arith,
+          syndrome-below B.n B.k B.rows A (get_or B.words i 0),
+          leaders_long B.n B.k B.rows A,
+          ap length ew ∙ length-append (leaders_list B.n B.k B.rows) _,
+        ))
 
     -- the lists written are those of the definitions
     pub decode_ends : (out counts : List ℕ)
-        → out ≡ map (word_by B.reading (take size work) hs) B.words ++ drop (length B.words) L.codewords
-        → counts ≡ map (count_by B.reading (take size work) hs) B.words ++ drop (length B.words) L.counts
-        → Decoded B L Done (record { codewords = out; counts = counts; work = work })
+        → out ≡ map (word_by B.reading work hs) B.words ++ drop (length B.words) L.codewords
+        → counts ≡ map (count_by B.reading work hs) B.words ++ drop (length B.words) L.counts
+        → Decoded B L done (record { codewords = out; counts = counts; work = work })
     decode_ends out counts eo ec =
         decode_done _
-        (eo ∙ ap (λ (x : List ℕ). x ++ drop (length B.words) L.codewords)
-        (words_are B.n B.k B.rows A B.reading (take size work) hs leaders_lent are B.words))
-        (ec ∙ ap (λ (x : List ℕ). x ++ drop (length B.words) L.counts)
-        (counts_are B.n B.k B.rows A B.reading (take size work) hs leaders_lent are B.words))
+        (eo ∙ ap (λ (x : List ℕ). x ++ drop (length B.words) L.codewords) (words_are B.n B.k B.rows A B.reading work _ hs ew are B.words))
+        (ec ∙ ap (λ (x : List ℕ). x ++ drop (length B.words) L.counts) (counts_are B.n B.k B.rows A B.reading work _ hs ew are B.words))
         ew

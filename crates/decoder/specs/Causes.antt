@@ -1,8 +1,7 @@
 -- The causes of Decode, in order: 1 to 5, 6 to 8, and 9.
 use Rattle.std.specs.Prelude.{List, ℕ, ◌-◌, ◌^◌, min}
-use Rattle.answers.specs.Refusal.{and_then}
+use Rattle.answers.specs.Refusal.{Answer, and_then}
 use Rattle.words.specs.Lists.{list_answer}
-use Rattle.answers.specs.declared.answer.Answer.{Answer}
 use Rattle.leaders.specs.Leaders.{work_answer}
 use Rattle.judging.specs.Causes.{code_answer}
 use Rattle.outcomes.specs.declared.ending.Reading.{Reading}

@@ -1,72 +1,43 @@
 // Decode: a batch of received words, read as the nearest codewords or within a radius.
-ghost use Rattle.std.specs.Prelude.{◌≡◌, true, map, ◌++◌, ℕ, ◌≤◌, ◌<◌, length, get_or, take, drop};
+ghost use Rattle.std.specs.Prelude.{◌≡◌, true, map, ◌++◌, ℕ, ◌≤◌, ◌<◌, length, get_or, take, drop, IfOk, Some};
 ghost use Rattle.coding.specs.Check.{syndrome};
 ghost use Rattle.coding.specs.Weight.{dmin};
-ghost use Rattle.answers.specs.Refusal.{if_done};
+ghost use Rattle.answers.specs.Refusal.{answer_of};
+ghost use Rattle.decoder.specs.Given.{batch_of, lists_of, SameLists};
 ghost use Rattle.decoder.specs.Decoded.{Decoded};
 ghost use Rattle.decoder.specs.Inner.SlotsBy.{words_with, counts_with, word_by, count_by};
 
-use answers::{Answer, Refusal};
-use judging::known_past_8;
+use answers::Refusal;
+use judging::{Batch, known_past_8};
 use leaders::fill_leaders;
-use outcomes::{Reading, outcome_of};
+use outcomes::outcome_of;
 use parity::syndromes;
 use words::limits::MAX_CHECKS;
 
-// Decodes the words: codewords and counts into the first two lists, the leaders into the third.
-pub fn decode(
-    n: u32,
-    k: u32,
-    rows: &[u32],
-    reading: Reading,
-    words: &[u32],
-    out: &mut [u32],
-    counts: &mut [u8],
-    work: &mut [u32],
-) -> Answer
-    ensures { Decoded
-        (record { n = n; k = k; rows = rows.now; reading = reading; words = words.now })
-        (record { codewords = out.old; counts = counts.old; work = work.old })
-        result
-        (record { codewords = out.new; counts = counts.new; work = work.new }) }
-{
-    let m = decode_by(false, n, k, rows, reading, words, out, counts, work);
-    m.answer
-}
-
-// An answer with the minimum distance beside it, 0 on a refusal.
+// The lists lent to Decode: for the codewords, for the counts, and for the leaders, with which it works.
 #[derive(Drop)]
-pub struct Measured {
-    pub answer: Answer,
-    pub dmin: u32,
+pub struct Lent<'a> {
+    pub codewords: &'a mut [u32],
+    pub counts: &'a mut [u8],
+    pub work: &'a mut [u32],
 }
 
-// The same, with the minimum distance beside the answer, which is looked for once, in either reading.
-pub fn decode_measured(
-    n: u32,
-    k: u32,
-    rows: &[u32],
-    reading: Reading,
-    words: &[u32],
-    out: &mut [u32],
-    counts: &mut [u8],
-    work: &mut [u32],
-) -> Measured
-    ensures decoded { Decoded
-        (record { n = n; k = k; rows = rows.now; reading = reading; words = words.now })
-        (record { codewords = out.old; counts = counts.old; work = work.old })
-        result.answer
-        (record { codewords = out.new; counts = counts.new; work = work.new }) }
-    ensures dmin_value { result.dmin ≡ if_done result.answer (dmin rows.now) 0 }
+// Decodes the words: codewords and counts into the first two lists, the leaders into the third.
+pub fn decode(batch: &Batch, lent: &mut Lent) -> Result<(), Refusal>
+    ensures decoded { Decoded (batch_of batch.now) (lists_of lent.old) result (lists_of lent.new) }
+    ensures same_lists { SameLists lent.old lent.new }
 {
-    decode_by(true, n, k, rows, reading, words, out, counts, work)
+    decode_by(false, batch, lent)?;
+    Ok(())
 }
 
-// A refusal without a distance.
-fn unmeasured(answer: Answer) -> Measured
-    ensures { (result.answer ≡ answer) × (result.dmin ≡ 0) }
+// The same, and answers the minimum distance, which is looked for once, in either reading.
+pub fn decode_measured(batch: &Batch, lent: &mut Lent) -> Result<u32, Refusal>
+    ensures decoded { Decoded (batch_of batch.now) (lists_of lent.old) (answer_of result) (lists_of lent.new) }
+    ensures dmin_value { IfOk result (λ d. d ≡ dmin batch.now.matrix.rows.now) }
+    ensures same_lists { SameLists lent.old lent.new }
 {
-    Measured { answer, dmin: 0 }
+    Ok(decode_by(true, batch, lent)?.unwrap())
 }
 
 // Each syndrome becomes its leader.
@@ -80,100 +51,71 @@ fn look_up(leaders: &[u32], list: &mut [u32])
 }
 
 // Each leader becomes the codeword of the word beside it, and its count is written.
-fn correct(reading: Reading, words: &[u32], out: &mut [u32], counts: &mut [u8])
-    requires { (length out.old ≡ length words.now) × (length counts.old ≡ length words.now) }
-    ensures codewords { out.new ≡ words_with reading words.now out.old }
-    ensures counts { counts.new ≡ counts_with reading words.now out.old }
+fn correct(batch: &Batch, out: &mut [u32], counts: &mut [u8])
+    requires { (length out.old ≡ length batch.now.words.now) × (length counts.old ≡ length batch.now.words.now) }
+    ensures codewords { out.new ≡ words_with batch.now.reading batch.now.words.now out.old }
+    ensures counts { counts.new ≡ counts_with batch.now.reading batch.now.words.now out.old }
 {
-    for (i, &w) in words.iter().enumerate() {
-        let o = outcome_of(reading, w, out[i]);
+    for (i, &w) in batch.words.iter().enumerate() {
+        let o = outcome_of(batch.reading, w, out[i]);
         out[i] = o.word(w);
         counts[i] = o.count();
     }
 }
 
 // The same from syndromes.
-fn answer_words(
-    reading: Reading,
-    words: &[u32],
-    leaders: &[u32],
-    out: &mut [u32],
-    counts: &mut [u8],
-)
-    requires lengths { (length out.old ≡ length words.now) × (length counts.old ≡ length words.now) }
+fn answer_words(batch: &Batch, leaders: &[u32], out: &mut [u32], counts: &mut [u8])
+    requires lengths { (length out.old ≡ length batch.now.words.now) × (length counts.old ≡ length batch.now.words.now) }
     requires syndromes { (i : ℕ) → i < length out.old → get_or out.old i 0 < length leaders.now }
-    ensures codewords { out.new ≡ words_with reading words.now (map (λ s. get_or leaders.now s 0) out.old) }
-    ensures counts { counts.new ≡ counts_with reading words.now (map (λ s. get_or leaders.now s 0) out.old) }
+    ensures codewords { out.new ≡ words_with batch.now.reading batch.now.words.now (map (λ s. get_or leaders.now s 0) out.old) }
+    ensures counts { counts.new ≡ counts_with batch.now.reading batch.now.words.now (map (λ s. get_or leaders.now s 0) out.old) }
 {
     look_up(leaders, out);
-    correct(reading, words, out, counts);
+    correct(batch, out, counts);
 }
 
 // Each word is decoded with the leader of its syndrome by the first c check rows; the later slots keep their values. The syndromes stand in
 // the list of the codewords first.
 fn decode_words(
+    batch: &Batch,
     checks: &[u32; MAX_CHECKS],
     c: usize,
-    reading: Reading,
-    words: &[u32],
     leaders: &[u32],
     out: &mut [u32],
     counts: &mut [u8],
 )
-    requires room { (length words.now ≤ length out.old) × (length words.now ≤ length counts.old) }
-    requires syndromes { (i : ℕ) → i < length words.now → syndrome (take c checks.now) (get_or words.now i 0) < length leaders.now }
+    requires room { (length batch.now.words.now ≤ length out.old) × (length batch.now.words.now ≤ length counts.old) }
+    requires syndromes { (i : ℕ) → i < length batch.now.words.now
+        → syndrome (take c checks.now) (get_or batch.now.words.now i 0) < length leaders.now }
     ensures codewords { out.new
-        ≡ map (word_by reading leaders.now (take c checks.now)) words.now
-        ++ drop (length words.now) out.old }
+        ≡ map (word_by batch.now.reading leaders.now (take c checks.now)) batch.now.words.now
+        ++ drop (length batch.now.words.now) out.old }
     ensures counts { counts.new
-        ≡ map (count_by reading leaders.now (take c checks.now)) words.now
-        ++ drop (length words.now) counts.old }
+        ≡ map (count_by batch.now.reading leaders.now (take c checks.now)) batch.now.words.now
+        ++ drop (length batch.now.words.now) counts.old }
 {
-    let m = words.len();
-    syndromes(checks, c, words, out);
-    answer_words(reading, words, leaders, &mut out[..m], &mut counts[..m]);
+    let m = batch.words.len();
+    syndromes(checks, c, batch.words, out);
+    answer_words(batch, leaders, &mut out[..m], &mut counts[..m]);
 }
 
 // Decode, with the minimum distance where it is measured.
-fn decode_by(
-    measure: bool,
-    n: u32,
-    k: u32,
-    rows: &[u32],
-    reading: Reading,
-    words: &[u32],
-    out: &mut [u32],
-    counts: &mut [u8],
-    work: &mut [u32],
-) -> Measured
-    ensures decoded { Decoded
-        (record { n = n; k = k; rows = rows.now; reading = reading; words = words.now })
-        (record { codewords = out.old; counts = counts.old; work = work.old })
-        result.answer
-        (record { codewords = out.new; counts = counts.new; work = work.new }) }
-    ensures dmin_value { measure ≡ true → result.dmin ≡ if_done result.answer (dmin rows.now) 0 }
+fn decode_by(measure: bool, batch: &Batch, lent: &mut Lent) -> Result<Option<u32>, Refusal>
+    ensures decoded { Decoded (batch_of batch.now) (lists_of lent.old) (answer_of result) (lists_of lent.new) }
+    ensures dmin_value { measure ≡ true → IfOk result (λ d. d ≡ Some (dmin batch.now.matrix.rows.now)) }
+    ensures same_lists { SameLists lent.old lent.new }
 {
-    let c = known_past_8(measure, n, k, rows, reading, words, out.len(), counts.len());
-    let a = c.answer;
-    let Answer::Done = a else {
-        return unmeasured(a);
-    };
-    let checks = c.checks;
-    if fill_leaders(&checks, n, n - k, work) == 0 {
-        return unmeasured(Answer::Refused(Refusal::ShortWork));
-    }
-    let size = 1usize << (n - k);
+    let known = known_past_8(measure, batch, lent.codewords.len(), lent.counts.len())?;
+    let c = batch.matrix.n - batch.matrix.k;
+    let work = &mut *lent.work;
+    fill_leaders(&known.checks, batch.matrix.n, c, work).ok_or(Refusal::ShortWork)?;
     decode_words(
-        &checks,
-        (n - k) as usize,
-        reading,
-        words,
-        &work[..size],
-        out,
-        counts,
+        batch,
+        &known.checks,
+        c as usize,
+        work,
+        lent.codewords,
+        lent.counts,
     );
-    Measured {
-        answer: Answer::Done,
-        dmin: c.dmin,
-    }
+    Ok(known.dmin)
 }

@@ -23,7 +23,7 @@ fn smaller(best: u32, word: u32, w: u32) -> u32
 pub fn smallest_weighing(rows: &[u32], w: u32) -> u32
     ensures { SmallestSum rows.now w result }
 {
-    let keep = |best: u32, word: u32| smaller(best, word, w);
+    let keep = move |best: u32, word: u32| smaller(best, word, w);
     let mut best = NO_WORD;
     for t in 1..=rows.len().min(w as usize) {
         best = least_sum(rows, t, 0, &keep, best);

@@ -19,11 +19,10 @@ use Rattle.coding.proofs.MatrixLaws.{codeword-lt}
 use Rattle.coding.proofs.SystematicLaws.{systematic-syndrome, systematic-syndrome-xor, systematic_message, systematic-codeword}
 use Rattle.coding.proofs.SearchLaws.{codeword-test, codeword_fails}
 use Rattle.answers.specs.declared.answer.Refusal.TheVariants.{WordOutside, NoCodeword}
-use Rattle.answers.specs.declared.answer.Answer.TheVariants.{Done, Refused}
-use Rattle.answers.proofs.AnswerLaws.{refused_done}
 use Rattle.words.proofs.CodeLaws.{one_is, back_is}
-use Rattle.outcomes.specs.Outcome.{outcome_of, word_in, count_in}
+use Rattle.outcomes.specs.Outcome.{outcome_of, word_in, count_in, corrected}
 use Rattle.outcomes.specs.declared.ending.Reading.TheVariants.{Within}
+use Rattle.outcomes.specs.declared.ending.Correction.{Correction}
 use Rattle.outcomes.specs.declared.ending.Outcome.TheVariants.{Clean, Mended, Far}
 use Rattle.outcomes.proofs.DemandLaws.{outcome_found, outcome_none, radius_rule, clean_rule}
 use Rattle.golay_code.specs.Golay.{golay_checks, golay_rows}
@@ -33,6 +32,7 @@ use Rattle.golay.specs.Encoded.{Encoded}
 use Rattle.golay.specs.Decoded.{golay_outcome, Decoded}
 use Rattle.golay.specs.MessageRead.{MessageRead}
 use Rattle.golay.proofs.PatternLaws.{sum_lt, check-pattern}
+use Rattle.std.specs.Prelude.{Ok, Err}
 
 four_places : weight 15 ≡ 4
 unfolding ones ones_in
@@ -123,52 +123,39 @@ golay_encoded u h =
 -- ---- the answers
 
 module _ (u : ℕ) where
-  pub encode_refused : ltb u (2 ^ 12) ≡ false → Encoded u (record { answer = Refused (WordOutside 0); word = 0 })
-  encode_refused f = record { answer = sym (simp f refl); word = refl; back = golay_back }
+  pub encode_refused : ltb u (2 ^ 12) ≡ false → Encoded u (Err (WordOutside 0))
+  encode_refused f = record { is = sym (simp f refl); back = golay_back }
 
-  pub encode_done : ltb u (2 ^ 12) ≡ true → (w : ℕ) → w ≡ u * 2 ^ 12 ⊕ encode golay_checks u → Encoded u (record { answer = Done; word = w })
-  encode_done t w e = record { answer = sym (simp t refl); word = e ∙ golay_encoded u (ltb-true u (2 ^ 12) t); back = golay_back }
+  pub encode_done : ltb u (2 ^ 12) ≡ true → (w : ℕ) → w ≡ u * 2 ^ 12 ⊕ encode golay_checks u → Encoded u (Ok w)
+  encode_done t w e = record { is = ap Ok (e ∙ golay_encoded u (ltb-true u (2 ^ 12) t)) ∙ sym (simp t refl); back = golay_back }
 
 module _ (w : ℕ) where
-  pub decode_refused : ltb w (2 ^ 24) ≡ false → Decoded w (record { answer = Refused (WordOutside 0); word = 0; count = 0 })
-  decode_refused f = record {
-    answer = sym (simp f refl);
-    word = refl;
-    count = refl;
+  pub decode_refused : ltb w (2 ^ 24) ≡ false → Decoded w (Err (WordOutside 0))
+  decode_refused f = record { is = sym (simp f refl); apart = golay_distance; within = tt; clean = tt }
+
+  pub decode_done : ltb w (2 ^ 24) ≡ true → (c : Correction ℕ) → c ≡ corrected (golay_outcome w) w → Decoded w (Ok c)
+  decode_done t c e = record {
+    is = ap Ok e ∙ sym (simp t refl);
     apart = golay_distance;
-    within = refused_done;
-    clean = refused_done;
+    within = rw e (golay_rules w (ltb-true w (2 ^ 24) t));
+    clean = rw e (golay_clean w);
   }
 
-  pub decode_done : ltb w (2 ^ 24) ≡ true → (c d : ℕ) → c ≡ word_in (golay_outcome w) w → d ≡ count_in (golay_outcome w)
-      → Decoded w (record { answer = Done; word = c; count = d })
-  decode_done t c d ec ed = record {
-    answer = sym (simp t refl);
-    word = ec;
-    count = ed;
-    apart = golay_distance;
-    within = λ _. rw (ec, ed) (golay_rules w (ltb-true w (2 ^ 24) t));
-    clean = λ _. rw ed (golay_clean w);
-  }
+  pub read_outside : ltb w (2 ^ 24) ≡ false → MessageRead w (Err (WordOutside 0))
+  read_outside f = record { is = sym (simp f refl); one = golay_message w; places = golay_places w }
 
-  pub read_outside : ltb w (2 ^ 24) ≡ false → MessageRead w (record { answer = Refused (WordOutside 0); message = 0 })
-  read_outside f = record { answer = sym (simp f refl); message = refl; one = golay_message w; places = golay_places w }
-
-  pub read_refused : ltb w (2 ^ 24) ≡ true → systematic_syndrome 12 golay_checks w ≢ 0
-      → MessageRead w (record { answer = Refused (NoCodeword 0); message = 0 })
+  pub read_refused : ltb w (2 ^ 24) ≡ true → systematic_syndrome 12 golay_checks w ≢ 0 → MessageRead w (Err (NoCodeword 0))
   read_refused t ne = record {
-    answer = sym (simp (t, codeword_fails golay_rows w (λ c. ne ((golay_test w (ltb-true w (2 ^ 24) t)).0 c))) refl);
-    message = refl;
+    is = sym (simp (t, codeword_fails golay_rows w (λ c. ne ((golay_test w (ltb-true w (2 ^ 24) t)).0 c))) refl);
     one = golay_message w;
     places = golay_places w;
   }
 
-  pub read_done : ltb w (2 ^ 24) ≡ true → systematic_syndrome 12 golay_checks w ≡ 0 → MessageRead w (record { answer = Done; message = w / 2 ^ 12 })
+  pub read_done : ltb w (2 ^ 24) ≡ true → systematic_syndrome 12 golay_checks w ≡ 0 → MessageRead w (Ok (w / 2 ^ 12))
   read_done t z =
       let c : Codeword golay_rows w = (golay_test w (ltb-true w (2 ^ 24) t)).1 z in
       record {
-        answer = sym (simp (t, (codeword-test golay_rows w).1 c) refl);
-        message = sym (golay_places w c);
+        is = ap Ok (sym (golay_places w c)) ∙ sym (simp (t, (codeword-test golay_rows w).1 c) refl);
         one = golay_message w;
         places = golay_places w;
       }

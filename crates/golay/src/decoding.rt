@@ -6,20 +6,11 @@ ghost use Rattle.golay.specs.Decoded.{golay_outcome, Decoded};
 
 use crate::nearby::near_row;
 use crate::rows::{CHECK_ROWS, check_sum, syndrome};
-use answers::{Answer, Refusal};
-use outcomes::Outcome;
+use answers::Refusal;
+use outcomes::{Correction, Outcome};
 use words::word::{fits, sum, weight};
 
 pub const RADIUS: u32 = 3;
-
-// The answer to a received word of 24 places, and the codeword within three places with its distance; a far word is answered
-// unchanged with the count 255. On a refusal both are 0.
-#[derive(Drop)]
-pub struct Correction {
-    pub answer: Answer,
-    pub word: u32,
-    pub count: u8,
-}
 
 // An error pattern with the syndrome s, at most three places and at most one of them among the message places.
 fn few_in_message(s: u32) -> Option<u32>
@@ -66,21 +57,12 @@ fn outcome(received: u32) -> Outcome<u32>
     }
 }
 
-// The codeword within three places of a word of 24, or far; a one outside them is refused.
-pub fn decode(received: u32) -> Correction
+// The codeword within three places of a word of 24, or the word unchanged with count 255; a one outside them is refused.
+pub fn decode(received: u32) -> Result<Correction<u32>, Refusal>
     ensures { Decoded received result }
 {
     if !fits(received, 24) {
-        return Correction {
-            answer: Answer::Refused(Refusal::WordOutside(0)),
-            word: 0,
-            count: 0,
-        };
+        return Err(Refusal::WordOutside(0));
     }
-    let o = outcome(received);
-    Correction {
-        answer: Answer::Done,
-        word: o.word(received),
-        count: o.count(),
-    }
+    Ok(outcome(received).correction(received))
 }

@@ -8,6 +8,7 @@ use lib.Dec.{leb}
 use lib.ListN.{length, get_or, take, drop, get_or-append}
 use borrow.Author.Tests.{le-leb}
 use Rattle.std.specs.Prelude.{Option, Some, None, is_some, Result, Ok, Err}
+use Rattle.std.specs.Option.{ok_or}
 use Rattle.coding.specs.Lists.{padded}
 use Rattle.coding.specs.Check.{checks}
 use Rattle.coding.specs.Leader.{leader_of}
@@ -48,6 +49,15 @@ module _ (hs : List ℕ) (n c : ℕ) (before : List ℕ) where
 -- where there is no room the list is as it was
 pub list_kept : {hs : List ℕ} {n c : ℕ} {before : List ℕ} {r : Option ℕ} {after : List ℕ} → LeadersBy hs n c before r after → r ≡ None → after ≡ before
 list_kept L e = rw (sym L.room ∙ ap is_some e) at L.list
+
+-- where that is a refusal, it tells whether there was room
+pub no_tries : (r : Option ℕ) (e c : Refusal) → Err c ≡ ok_or r e → (r ≡ None) × (c ≡ e)
+no_tries None e c q = (refl, cc)
+no_tries (Some x) e c q = absurd cc
+
+pub some_tries : (r : Option ℕ) (e : Refusal) (x : ℕ) → Ok x ≡ ok_or r e → r ≡ Some x
+some_tries None e x q = absurd cc
+some_tries (Some y) e x q = cc
 
 -- ---- of an accepted matrix
 

@@ -4,6 +4,7 @@ use Rattle.coding.specs.Word.{◌⊕◌, weight}
 use Rattle.coding.specs.Leader.{syndrome_of, leader_of}
 use Rattle.outcomes.specs.declared.ending.Reading.{Reading}
 use Rattle.outcomes.specs.declared.ending.Reading.TheVariants.{Nearest, Within}
+use Rattle.outcomes.specs.declared.ending.Correction.{Correction}
 use Rattle.outcomes.specs.declared.ending.Outcome.{Outcome}
 use Rattle.outcomes.specs.declared.ending.Outcome.TheVariants.{Clean, Mended, Far}
 
@@ -27,6 +28,10 @@ abbrev pub count_in : {W : Type 0} → Outcome W → ℕ
 count_in (Clean c) = 0
 count_in (Mended c d) = d
 count_in Far = 255
+
+-- both, as the word w is answered
+abbrev pub corrected : {W : Type 0} → Outcome W → W → Correction W
+corrected o w = record { word = word_in o w; count = count_in o }
 
 -- how a received word ends: with the leader of its syndrome
 abbrev pub decoded_as : ℕ → List ℕ → Reading → ℕ → Outcome ℕ

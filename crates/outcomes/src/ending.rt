@@ -1,6 +1,6 @@
 // Part 5: how one word ends.
 ghost use Rattle.std.specs.Prelude.{◌≡◌};
-ghost use Rattle.outcomes.specs.Outcome.{outcome_of, word_in, count_in};
+ghost use Rattle.outcomes.specs.Outcome.{outcome_of, word_in, count_in, corrected};
 
 use words::word::{sum, weight};
 
@@ -17,6 +17,13 @@ pub enum Outcome<W> {
     Clean(W),
     Mended(W, u8),
     Far,
+}
+
+// What a word is answered by: a word, and its count.
+#[derive(Clone, Copy)]
+pub struct Correction<W> {
+    pub word: W,
+    pub count: u8,
 }
 
 impl<W: Copy> Outcome<W> {
@@ -39,6 +46,16 @@ impl<W: Copy> Outcome<W> {
             Outcome::Clean(_) => 0,
             Outcome::Mended(_, n) => n,
             Outcome::Far => 255,
+        }
+    }
+
+    // Both, as the word received is answered.
+    pub fn correction(self, received: W) -> Correction<W>
+        ensures { result ≡ corrected self received }
+    {
+        Correction {
+            word: self.word(received),
+            count: self.count(),
         }
     }
 }

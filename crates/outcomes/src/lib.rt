@@ -3,4 +3,4 @@
 
 pub mod ending; // the reading and the outcome
 
-pub use crate::ending::{Outcome, Reading, outcome_of};
+pub use crate::ending::{Correction, Outcome, Reading, outcome_of};

@@ -30,7 +30,8 @@ fn join_rows(checks: &[u32], words: &[u32], list: &mut [u32])
     }
 }
 
-// Slot i becomes the syndrome of word i by the first c check rows, as far as there are slots; the later ones keep their values.
+// Slot i becomes the syndrome of word i by the first c check rows, as far as there are slots; the later ones keep their values. The array's type
+// bounds the rows, where a slice would have to demand it, so that c stands beside it.
 pub fn syndromes(checks: &[u32; MAX_CHECKS], c: usize, words: &[u32], out: &mut [u32])
     ensures { SyndromesOf (take c checks.now) words.now out.old out.new }
 {

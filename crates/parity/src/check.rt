@@ -32,8 +32,7 @@ pub fn syndrome(checks: &[u32; MAX_CHECKS], w: u32) -> u32
 }
 
 // Place q of each row.
-fn column(rows: &[u32], q: u32) -> u32
-    requires { length rows.now ≤ width }
+fn column(rows: &[u32; WIDTH], q: u32) -> u32
     ensures { result ≡ column rows.now q }
 {
     joined(rows, |r| place(r, q))
@@ -58,8 +57,8 @@ pub fn columns(checks: &[u32; MAX_CHECKS], n: usize, c: usize) -> [u32; WIDTH]
 }
 
 // The check rows of the places below n that are no pivot, in rising order.
-fn check_rows(table: &[u32], n: usize) -> [u32; MAX_CHECKS]
-    requires { (length table.now ≡ width) × (n ≤ width) × (length (frees_from 0 (take n table.now)) ≤ max_checks) }
+fn check_rows(table: &[u32; WIDTH], n: usize) -> [u32; MAX_CHECKS]
+    requires { (n ≤ width) × (length (frees_from 0 (take n table.now)) ≤ max_checks) }
     ensures { result ≡ padded max_checks (map (check table.now) (frees_from 0 (take n table.now))) }
 {
     let mut checks = [0u32; MAX_CHECKS];

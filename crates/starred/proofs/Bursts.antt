@@ -1,4 +1,4 @@
--- The value of the table of bursts: each part by computation. Assumes nothing.
+-- The value of the table of bursts: each part by computation.
 use mathlib.Core.Path.{◌≡◌, refl, sym, ap, ◌∙◌}
 use mathlib.Core.Logic.{inl, inr}
 use mathlib.Core.List.{List}

@@ -1,4 +1,4 @@
--- The value of the table of widths: by computation. Assumes nothing.
+-- The value of the table of widths: by computation.
 use mathlib.Core.Path.{refl}
 use Rattle.hsiao.specs.Table.{columns}
 use Rattle.hsiao.specs.Widths.Code.{columns_of}

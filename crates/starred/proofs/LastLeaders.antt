@@ -1,4 +1,4 @@
--- The value of the table of last leaders: the number of words tried is computed, and the word stands at its place. Assumes nothing.
+-- The value of the table of last leaders: the number of words tried is computed, and the word stands at its place.
 use mathlib.Core.Path.{◌≡◌, refl, sym, ◌∙◌}
 use mathlib.Core.List.{List, [], ◌∷◌}
 use Prim.Native.Nat.{ℕ, suc, ◌-◌}

@@ -1,6 +1,5 @@
 pub mod Starred  -- the value of the table
 pub mod Sheets  -- the value of the table of sheets
-pub mod Causes  -- the value of the table of causes
 pub mod LightestCodewords  -- the value of the table of lightest codewords
 pub mod HsiaoWidths  -- the value of the table of widths
 pub mod LastLeaders  -- the value of the table of last leaders

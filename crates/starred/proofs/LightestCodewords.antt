@@ -1,4 +1,4 @@
--- The value of the table of lightest codewords: by computation, and that of G from its rows. Assumes nothing.
+-- The value of the table of lightest codewords: by computation, and that of G from its rows.
 use mathlib.Core.Path.{◌≡◌, refl, sym, ap, ◌∙◌}
 use mathlib.Core.Logic.{◌≢◌}
 use Prim.Native.Nat.{ℕ, zero, suc, ◌^◌, ◌≤◌, ◌<◌}

@@ -1,4 +1,4 @@
--- The value of the table of the longest words: by computation. Assumes nothing.
+-- The value of the table of the longest words: by computation.
 use mathlib.Core.Path.{refl}
 use Rattle.words.specs.Shape.{shape_answer}
 use Rattle.words.specs.Lists.{list_answer}

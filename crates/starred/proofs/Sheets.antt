@@ -1,4 +1,4 @@
--- The value of the table of sheets, by computation. Assumes nothing.
+-- The value of the table of sheets, by computation.
 use mathlib.Core.Path.{◌≡◌, refl, ◌∙◌}
 use mathlib.Core.List.{List, [], ◌∷◌, ◌++◌}
 use Prim.Native.Nat.{ℕ, ◌≤◌}

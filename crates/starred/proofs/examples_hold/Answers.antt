@@ -6,7 +6,6 @@ use Rattle.starred.proofs.HsiaoWidths.{hsiao_widths}
 use Rattle.starred.proofs.LastLeaders.{last_leaders}
 use Rattle.starred.proofs.Bursts.{bursts}
 use Rattle.starred.proofs.LongestWords.{longest-words}
-use Rattle.starred.proofs.Causes.{causes-numbered}
 use Rattle.starred.proofs.examples_hold.Goals as goal
 
 pub returns-clause-starred : goal.returns-clause-starred
@@ -29,6 +28,3 @@ returns-clause-bursts c = bursts
 
 pub returns-clause-longest_words : goal.returns-clause-longest_words
 returns-clause-longest_words c = longest-words
-
-pub returns-clause-causes : goal.returns-clause-causes
-returns-clause-causes c = causes-numbered

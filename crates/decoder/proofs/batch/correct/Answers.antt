@@ -19,30 +19,30 @@ pub loop-i-preserved : goal.loop-i-preserved
 loop-i-preserved c =
     let a = c.args in
     let i = c.loop-i.i in
-    let w = get_or a.words.now i 0 in
-    let m = length a.words.now in
+    let w = get_or a.batch.now.words.now i 0 in
+    let m = length a.batch.now.words.now in
     let h : i < m = omega (arith, c.loop-i-test.true) in
     let (out, counts) = c.loop-i.invariant in
-    let ended : c.outcome_of-o.result ≡ outcome_of a.reading w (get_or a.out.now i 0) =
+    let ended : c.outcome_of-o.result ≡ outcome_of a.batch.now.reading w (get_or a.out.now i 0) =
     c.outcome_of-o.ensures
-    ∙ ap (outcome_of a.reading w)
+    ∙ ap (outcome_of a.batch.now.reading w)
     (ap (λ (x : List ℕ). get_or x i 0) out.list
-    ∙ over_next (words_with a.reading a.words.now a.out.now) a.out.now i
-    (omega (arith, h, length-tabulate (word_at a.reading a.words.now a.out.now) m))) in (
-      over-tabulate_step (word_at a.reading a.words.now a.out.now) m out _ h (omega (arith, h, c.requires))
+    ∙ over_next (words_with a.batch.now.reading a.batch.now.words.now a.out.now) a.out.now i
+    (omega (arith, h, length-tabulate (word_at a.batch.now.reading a.batch.now.words.now a.out.now) m))) in (
+      over-tabulate_step (word_at a.batch.now.reading a.batch.now.words.now a.out.now) m out _ h (omega (arith, h, c.requires))
           (c.word.ensures ∙ ap (λ (x : Outcome ℕ). word_in x w) ended),
-      over-tabulate_step (count_at a.reading a.words.now a.out.now) m counts _ h (omega (arith, h, c.requires))
+      over-tabulate_step (count_at a.batch.now.reading a.batch.now.words.now a.out.now) m counts _ h (omega (arith, h, c.requires))
           (c.count.ensures ∙ ap count_in ended),
     )
 
 pub returns-clause-codewords : goal.returns-clause-codewords
 returns-clause-codewords c =
     let a = c.args in
-    over-tabulate-full (word_at a.reading a.words.now a.out.now) (length a.words.now) c.loop-i.invariant.0 (sym c.requires.0)
+    over-tabulate-full (word_at a.batch.now.reading a.batch.now.words.now a.out.now) (length a.batch.now.words.now) c.loop-i.invariant.0 (sym c.requires.0)
     (omega (arith, c.requires, c.loop-i-test.false))
 
 pub returns-clause-counts : goal.returns-clause-counts
 returns-clause-counts c =
     let a = c.args in
-    over-tabulate-full (count_at a.reading a.words.now a.out.now) (length a.words.now) c.loop-i.invariant.1 (sym c.requires.1)
+    over-tabulate-full (count_at a.batch.now.reading a.batch.now.words.now a.out.now) (length a.batch.now.words.now) c.loop-i.invariant.1 (sym c.requires.1)
     (omega (arith, c.requires, c.loop-i-test.false))

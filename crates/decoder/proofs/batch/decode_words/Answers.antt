@@ -9,24 +9,24 @@ use Rattle.decoder.proofs.batch.decode_words.Goals as goal
 pub returns-clause-codewords : goal.returns-clause-codewords
 returns-clause-codewords c =
     let a = c.args in
-    let words = a.words.now in
+    let words = a.batch.now.words.now in
     let hs = take a.c a.checks.now in
     let list = c.syndromes.new.out in
     let h = c.requires.room.0 in
     let e = c.syndromes.ensures.slots in
     ap₂ ◌++◌
     (c.answer_words.ensures.codewords
-    ∙ ap (λ (l : List ℕ). words_with a.reading words (map (λ s. get_or a.leaders.now s 0) l)) (first_are (syndrome hs) words a.out.now list h e)
-    ∙ words_with_lem a.reading a.leaders.now hs words) (later_are (syndrome hs) words a.out.now list h e)
+    ∙ ap (λ (l : List ℕ). words_with a.batch.now.reading words (map (λ s. get_or a.leaders.now s 0) l)) (first_are (syndrome hs) words a.out.now list h e)
+    ∙ words_with_lem a.batch.now.reading a.leaders.now hs words) (later_are (syndrome hs) words a.out.now list h e)
 
 pub returns-clause-counts : goal.returns-clause-counts
 returns-clause-counts c =
     let a = c.args in
-    let words = a.words.now in
+    let words = a.batch.now.words.now in
     let hs = take a.c a.checks.now in
     let list = c.syndromes.new.out in
     ap (λ (l : List ℕ). l ++ drop (length words) a.counts.now)
     (c.answer_words.ensures.counts
-    ∙ ap (λ (l : List ℕ). counts_with a.reading words (map (λ s. get_or a.leaders.now s 0) l))
+    ∙ ap (λ (l : List ℕ). counts_with a.batch.now.reading words (map (λ s. get_or a.leaders.now s 0) l))
     (first_are (syndrome hs) words a.out.now list c.requires.room.0 c.syndromes.ensures.slots)
-    ∙ counts_with_lem a.reading a.leaders.now hs words)
+    ∙ counts_with_lem a.batch.now.reading a.leaders.now hs words)

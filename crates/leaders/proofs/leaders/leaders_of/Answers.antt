@@ -1,7 +1,6 @@
 -- Causes 1 to 4, and 9 by the room for the leaders.
-use Rattle.std.proofs.Common.{◌≡◌, refl, sym, ap, ◌∙◌, ℕ, List, length}
-use Rattle.std.specs.Prelude.{Option, Some, None, Result, Ok, Err}
-use Rattle.std.specs.Option.{ok_or}
+use Rattle.std.proofs.Common.{refl, sym, ap, ◌∙◌, ℕ, List, length}
+use Rattle.std.specs.Prelude.{Result, Err}
 use Rattle.answers.specs.Refusal.{answer_of}
 use Rattle.answers.specs.declared.answer.Refusal.{Refusal}
 use Rattle.answers.proofs.AnswerLaws.{handed_on, answer_of-answered, answered_ok, answered_err}
@@ -10,7 +9,7 @@ use Rattle.words.specs.Widest.{EveryRow}
 use Rattle.words.proofs.ShapeLaws.{every_row_of}
 use Rattle.words.proofs.AcceptedLaws.{accepted_in}
 use Rattle.parity.specs.ParityChecks.{ParityChecksOf}
-use Rattle.leaders.proofs.LeaderPromiseLaws.{matrix_refuses, work_refuses, work_short, work_done, list_kept}
+use Rattle.leaders.proofs.LeaderPromiseLaws.{matrix_refuses, work_refuses, work_short, work_done, list_kept, no_tries, some_tries}
 use Rattle.leaders.proofs.LeaderPromiseLaws.{leaders_stand, leaders_refused, leaders_written}
 use Rattle.leaders.proofs.leaders.leaders_of.Goals as goal
 
@@ -23,15 +22,6 @@ returns-in_err-checks c =
     let P = c.parity_checks.ensures in
     leaders_refused m.n m.k m.rows.now (every_row m.n m.k m.rows.now _ P) c.args.list.now _ refl _
     (matrix_refuses m.n m.k m.rows.now (length c.args.list.now) _ (answered_err _ _ _ (sym c.in_err-checks.was ∙ P.is))) _ (handed_on _ _ c.from_residual.ensures)
-
--- whether there was room
-no_tries : (r : Option ℕ) (e c : Refusal) → Err c ≡ ok_or r e → (r ≡ None) × (c ≡ e)
-no_tries None e c q = (refl, cc)
-no_tries (Some x) e c q = absurd cc
-
-some_tries : (r : Option ℕ) (e : Refusal) (x : ℕ) → Ok x ≡ ok_or r e → r ≡ Some x
-some_tries None e x q = absurd cc
-some_tries (Some y) e x q = cc
 
 pub returns-in_err-tried : goal.returns-in_err-tried
 returns-in_err-tried c =

@@ -10,7 +10,6 @@ use Rattle.words.proofs.AcceptedLaws.{accepted_in}
 use Rattle.answers.proofs.AnswerLaws.{handed_on, err_answered, answered_err, ok_answered, answered_ok}
 use Rattle.linear.specs.Reduction.{messages_by_pivot}
 use Rattle.linear.specs.declared.reduction.Reduction.{Reduction}
-use Rattle.linear.proofs.PivotTableLaws.{table_size}
 use Rattle.parity.proofs.ParityLaws.{checks_few, checks_are, code_lem}
 use Rattle.parity.proofs.check.code_of.Goals as goal
 
@@ -26,7 +25,7 @@ check_rows-requires c =
     let (d, x) = answered_ok _ _ _ (sym c.in_ok-r.was ∙ c.reduce.ensures.is) in
     let A = accepted_in _ _ _ d in
     let t = ap (λ y. y.table) x in
-    (table_size _ _ _ A _ t, omega (arith, A.range.places), checks_few _ _ _ A _ t)
+    (omega (arith, A.range.places), checks_few _ _ _ A _ t)
 
 pub returns : goal.returns
 returns c =

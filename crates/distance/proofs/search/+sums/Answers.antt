@@ -5,26 +5,26 @@ use Rattle.std.specs.List.{fold}
 use Rattle.coding.specs.Word.{◌⊕◌}
 use Rattle.distance.specs.Inner.LeastSum.{LeastSum}
 use Rattle.distance.proofs.LeastSumLaws.{least_rows, least_start, least_next, least_first}
-use Rattle.distance.proofs.search.+least_sum.Goals as goal
+use Rattle.distance.proofs.search.+sums.Goals as goal
 
-pub returns-then-t-eq1 : goal.returns-then-t-eq1
-returns-then-t-eq1 g t c = λ f keeps.
+pub least_sum-returns-then-t-eq1 : goal.least_sum-returns-then-t-eq1
+least_sum-returns-then-t-eq1 g t c = λ f keeps.
     let a = c.args in
     let e : c.fold.result ≡ fold (λ least row. min least (f (row ⊕ a.base))) a.best a.rows.now = search (rules, chains, keeps) in
     rw (c.if-t-eq1.true, e) (least_rows f a.rows.now a.base a.best)
 
-pub loop-p-init : goal.loop-p-init
-loop-p-init g t c = λ f keeps. least_start f _ _ _ _ _ (omega (arith, c.requires.number))
+pub least_by_last-loop-p-init : goal.least_by_last-loop-p-init
+least_by_last-loop-p-init g t c = λ f keeps. least_start f _ _ _ _ _ (omega (arith, c.requires.number))
 
-pub loop-p-preserved : goal.loop-p-preserved
-loop-p-preserved g t c = λ f keeps.
+pub least_by_last-loop-p-preserved : goal.least_by_last-loop-p-preserved
+least_by_last-loop-p-preserved g t c = λ f keeps.
     let a = c.args in
-    least_next f a.rows.now c.loop-p.p a.t a.base a.best c.loop-p.least c.least_sum-least.result (omega (arith, c.requires.number, c.if-t-eq1.false))
+    least_next f a.rows.now c.loop-p.p a.t a.base a.best c.loop-p.least c.least_sum-least.result (omega (arith, c.requires.number))
     (c.loop-p.invariant f keeps)
     (least_first f a.rows.now c.loop-p.p _ _ _ _ (omega (arith, c.loop-p-test.true)) (c.least_sum-least.ensures f keeps))
 
-pub returns : goal.returns
-returns g t c = λ f keeps.
+pub least_by_last-returns : goal.least_by_last-returns
+least_by_last-returns g t c = λ f keeps.
     let a = c.args in
     let all : c.loop-p.p ≡ length a.rows.now = omega (arith, c.requires.number, c.loop-p.auto.p-end, c.loop-p-test.false) in
     subst (λ (p : ℕ). LeastSum f a.rows.now p a.t a.base a.best c.loop-p.least) all (c.loop-p.invariant f keeps)
