@@ -12,7 +12,9 @@ use words::word::{fits, sum, weight};
 
 pub const RADIUS: u32 = 3;
 
-// An error pattern with the syndrome s, at most three places and at most one of them among the message places.
+// An error pattern with the syndrome s, at most three places and at most one of them among the message places. A call of it would cost a
+// third of the decode.
+#[inline(always)]
 fn few_in_message(s: u32) -> Option<u32>
     requires { s < 2 ^ 12 }
     ensures { FewInMessage s result }
