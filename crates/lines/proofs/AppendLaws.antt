@@ -1,6 +1,7 @@
 -- Laws of writers: stored bytes, one writer after another or over its end, and a loop that puts one byte after the other. Assumes nothing.
 use mathlib.Core.Path.{◌≡◌, refl, sym, ap, ap₂, ◌∙◌}
 use mathlib.Core.List.{List, [], ◌∷◌, ◌++◌, append_assoc, append-nil}
+use Rattle.std.specs.Prelude.{Option, Some, None}
 use Prim.Native.Nat.{ℕ, ◌+◌, ◌-◌, ◌≤◌, ◌<◌}
 use native.Mathlib.Nat.{add-zero}
 use native.Mathlib.Numerals.{add-one, add-two, add-three, add-four, add_five, add_six, add_seven}
@@ -125,8 +126,17 @@ module _ {before : List ℕ} {at : ℕ} {bytes : List ℕ} {i : ℕ} {after : Li
 
 -- ---- printing: the bytes, or nothing
 
-pub put_all : {can : Type 0} {before bytes after : List ℕ} {r : ℕ} → can → Appends before 0 bytes after r → Put can before bytes after r
-put_all c A = record { puts = λ _. A; keeps = λ n. absurd (n c) }
+pub put_all : {can : Type 0} {before bytes after : List ℕ} {m : ℕ} → can → Appends before 0 bytes after m → Put can before bytes after (Some m)
+put_all c A = record { puts = λ _. (_, refl, A); keeps = λ n. absurd (n c) }
 
-pub put-not : {can : Type 0} {before bytes : List ℕ} → (can → ⊥) → Put can before bytes before 0
+pub put-not : {can : Type 0} {before bytes : List ℕ} → (can → ⊥) → Put can before bytes before None
 put-not n = record { puts = λ c. absurd (n c); keeps = λ _. (refl, refl) }
+
+module _ {can : Type 0} {before bytes after : List ℕ} {r : Option ℕ} (P : Put can before bytes after r) where
+  -- the bytes by another name
+  pub put_as : (named : List ℕ) → bytes ≡ named → Put can before named after r
+  put_as named e = rw e at P
+
+  -- under a condition that holds when the other does
+  pub put-when : {other : Type 0} → (other → can) → (can → other) → Put other before bytes after r
+  put-when f g = record { puts = λ c. P.puts (f c); keeps = λ n. P.keeps (λ c. n (g c)) }

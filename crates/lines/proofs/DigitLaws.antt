@@ -1,12 +1,16 @@
 -- Laws of digits put eight at a time: those of a byte, drawn apart, and the groups one after the other. Assumes nothing.
-use mathlib.Core.Path.{◌≡◌, sym, ap, ◌∙◌}
-use mathlib.Core.List.{List, [], ◌∷◌, ◌++◌}
+use mathlib.Core.Path.{◌≡◌, sym, ap, ap₂, ◌∙◌}
+use mathlib.Core.List.{List, ◌∷◌, ◌++◌}
 use mathlib.Core.Bool.{Bool}
 use Prim.Native.Nat.{ℕ, zero, suc, ◌+◌, ◌-◌, ◌*◌, ◌/◌, ◌%◌, ◌^◌, ◌≤◌, ◌<◌}
-use native.Mathlib.Nat.{zero-add, suc-add, add-zero, div-one}
+use native.Mathlib.Nat.{zero-add, suc-add, div-one}
 use native.Mathlib.Omega.{arith}
+use Rattle.std.specs.Int.{to_le_bytes, w64}
+use Rattle.std.proofs.lemmas.Slice.{take-put_mid}
+use borrow.Rule.Slice.PartMut.{put_mid}
+use lib.Seq.{take_all, take-take, length-take-le}
 use lib.Dec.{T, eqb, eqb→eq}
-use lib.ListN.{length, take}
+use lib.ListN.{length, take, drop, length-append, length-drop}
 use lib.Bits.{bit_and, bit_or, and_mask}
 use lib.Pow.{shr-shr, field, mod-mod-pow}
 use Rattle.coding.specs.Lists.{tabulate}
@@ -15,9 +19,7 @@ use Rattle.coding.proofs.ListLaws.{length-tabulate, get_d_tabulate, take-tabulat
 use Rattle.coding.proofs.TestLaws.{every_entry, every_entry_lem}
 use Rattle.lines.specs.Decimal.{digit}
 use Rattle.lines.specs.Line.{digits_of}
-use Rattle.lines.specs.Appended.{Appends}
 use Rattle.lines.specs.Inner.Bytes.{bytes_of}
-use Rattle.lines.proofs.AppendLaws.{appends_as, appends_none, then, then_from}
 use Rattle.lines.proofs.LineLaws.{length_digits}
 
 -- ---- the digits of a byte
@@ -69,12 +71,13 @@ apart-digits w =
     ∙ tabulate_same (λ i. apart (w % 2 ^ 8) / 2 ^ (8 * i) % 2 ^ 8) (λ i. digit (bit w i)) 8
     (λ i h. right_at (w % 2 ^ 8) i (omega arith) h ∙ ap digit (bit-low w i h))
 
--- the bytes of a number, by shifts and masks
-pub bytes_masked : (x : ℕ)
-    → bit_and x 255 ∷ bit_and (x / 2 ^ 8) 255 ∷ bit_and (x / 2 ^ 16) 255 ∷ bit_and (x / 2 ^ 24) 255 ∷ bit_and (x / 2 ^ 32) 255
-    ∷ bit_and (x / 2 ^ 40) 255 ∷ bit_and (x / 2 ^ 48) 255 ∷ bit_and (x / 2 ^ 56) 255 ∷ [] ≡ bytes_of 8 x
+-- the bytes of a number, the lowest first
+pub bytes_low : (x : ℕ) → to_le_bytes w64 x ≡ bytes_of 8 x
 unfolding bytes_of
-bytes_masked x = simp (byte_is, div-one)
+bytes_low x = simp div-one
+
+pub apart-low : (w : ℕ) → to_le_bytes w64 (apart (bit_and w 255)) ≡ digits_of 8 w
+apart-low w = bytes_low (apart (bit_and w 255)) ∙ apart-digits w
 
 -- ---- groups of digits
 
@@ -99,29 +102,33 @@ digits-take : (q n w : ℕ) → q ≤ n → take q (digits_of n w) ≡ digits_of
 unfolding digits_of
 digits-take q n w h = take-tabulate (λ i. digit (bit w i)) n q h
 
--- the loop: the first p digits stand, and there are more
-pub record Eights (before : List ℕ) (at n w p : ℕ) (after : List ℕ) : Type 0 where
-  pub within : p < n
-  pub put : Appends before at (digits_of p w) after (at + p)
+-- eight more digits behind the first p
+pub eights_step : (p k w : ℕ) (digits eight : List ℕ) → take p digits ≡ digits_of p w → p ≤ length digits → eight ≡ digits_of 8 (w / 2 ^ p)
+    → take (p + 8) (put_mid p k digits eight) ≡ digits_of (p + 8) w
+eights_step p k w digits eight e h g =
+    let l : p + 8 ≡ p + length eight = omega (arith, ap length g, length_digits 8 (w / 2 ^ p)) in
+    take-put_mid p k digits eight (p + 8) l h ∙ ap₂ ◌++◌ e g ∙ digits-add p 8 w
 
-pub eights_start : (before : List ℕ) (at n w : ℕ) → 8 ≤ n → at + n ≤ length before → Eights before at n w 0 before
-unfolding digits_of
-eights_start before at n w h k = record { within = omega arith; put = rw add-zero (appends_none before at (omega arith)) }
+-- the last eight, behind the first q: with them all digits stand
+pub eights_end : (q w : ℕ) (digits eight : List ℕ) → take q digits ≡ digits_of q w → length digits ≡ q + 8 → eight ≡ digits_of 8 (w / 2 ^ q)
+    → put_mid q (length digits - q) digits eight ≡ digits_of (length digits) w
+eights_end q w digits eight e l g =
+    let k : length digits - q ≡ 8 = omega arith in
+    let m : length eight ≡ 8 = ap length g ∙ length_digits 8 (w / 2 ^ q) in
+    let s : length (put_mid q 8 digits eight) ≤ q + 8 = omega (arith, length-put_mid q 8 digits eight (omega arith) m) in
+    rw (k, l) (sym (take_all (q + 8) (put_mid q 8 digits eight) s) ∙ eights_step q 8 w digits eight e (omega arith) g)
+  where
+    length-put_mid : (a k : ℕ) (xs ys : List ℕ) → a + k ≤ length xs → length ys ≡ k → length (put_mid a k xs ys) ≡ length xs
+    length-put_mid a k xs ys h e =
+        omega (
+          arith,
+          length-append (take a xs) (ys ++ drop k (drop a xs)),
+          length-append ys (drop k (drop a xs)),
+          length-drop k (drop a xs),
+          length-drop a xs,
+          length-take-le a xs (omega arith),
+        )
 
-module _ {before : List ℕ} {at n w p : ℕ} {after : List ℕ} (E : Eights before at n w p after) {last : List ℕ} {next : ℕ} where
-  -- eight more
-  pub eights_step : p + 8 < n → Appends after (at + p) (digits_of 8 (w / 2 ^ p)) last next → Eights before at n w (p + 8) last
-  eights_step h A =
-      let e : next ≡ at + (p + 8) = omega (arith, length_digits 8 (w / 2 ^ p), A.ends) in
-      record { within = h; put = rw (← e) (appends_as (then E.put A) _ (digits-add p 8 w)) }
-
-  -- the last eight, some of which may stand
-  pub eights_end : 8 ≤ n → n ≤ p + 8 → Appends after (at + n - 8) (digits_of 8 (w / 2 ^ (n - 8))) last next → Appends before at (digits_of n w) last next
-  eights_end h k A =
-      let e : at + n - 8 ≡ at + (n - 8) = omega arith in
-      let s : n - 8 + 8 ≡ n = omega arith in
-      let l = length_digits p w in
-      appends_as
-      (then_from E.put (n - 8) (omega (arith, l, E.within)) (omega (arith, l, length_digits 8 (w / 2 ^ (n - 8)))) (rw e at A)) _
-      (ap (λ (x : List ℕ). x ++ digits_of 8 (w / 2 ^ (n - 8))) (digits-take (n - 8) p w (omega (arith, E.within)))
-      ∙ digits-add (n - 8) 8 w ∙ ap (λ (m : ℕ). digits_of m w) s)
+-- of the first p, q stand
+pub eights_fewer : (q p w : ℕ) (digits : List ℕ) → q ≤ p → take p digits ≡ digits_of p w → take q digits ≡ digits_of q w
+eights_fewer q p w digits h e = sym (take-take q p digits h) ∙ ap (take q) e ∙ digits-take q p w h

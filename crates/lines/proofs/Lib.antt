@@ -1,4 +1,5 @@
 pub mod AppendLaws  -- writers one after another
+pub mod WroteLaws  -- writers one after the other
 pub mod DecimalLaws  -- decimal digits
 pub mod DecimalMeaning  -- what the digits mean
 pub mod LineLaws  -- the parts of a line

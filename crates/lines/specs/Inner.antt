@@ -1,2 +1,3 @@
 pub mod Bytes  -- the bytes of a number
 pub mod Room  -- how many bytes writers ask for
+pub mod Wrote  -- what a writer leaves

@@ -7,5 +7,5 @@ ghost use Rattle.sheet_run.specs.Run.{Ran};
 pub extern "C" fn relay_run(sheet: &[u8], out: &mut [u8]) -> usize
     ensures { Ran sheet.now out.old result out.new }
 {
-    sheet_run::run(sheet, out)
+    sheet_run::run(sheet, out).unwrap_or(0)
 }

@@ -28,16 +28,13 @@ fn read_input<R: Read>(input: &mut R, bytes: &mut [u8]) -> usize
 // Whether the input has ended: a further read finds nothing and does not fail.
 fn ended<R: Read>(input: &mut R) -> bool {
     let mut one = [0u8; 1];
-    match input.read(&mut one) {
-        Ok(got) => got == 0,
-        Err(_) => false,
-    }
+    matches!(input.read(&mut one), Ok(0))
 }
 
 // The output is handed over whole, so that no line is cut where the system takes it in one call.
 fn print_run(rt: &(impl Print + Eprint), bytes: &[u8]) {
     let mut out = [0u8; MAX_OUTPUT];
-    let length = run(bytes, &mut out);
+    let length = run(bytes, &mut out).unwrap();
     if rt.write_all(&out[..length]).is_err() {
         complain(rt, "standard output cannot be written\n");
     }
@@ -49,11 +46,9 @@ pub fn decode_standard_input(rt: &(impl Input + Print + Eprint)) {
     let mut input = rt.reader();
     let mut bytes = [0u8; MAX_SHEET + 1];
     let got = read_input(&mut input, &mut bytes);
-    if got <= MAX_SHEET {
-        if !ended(&mut input) {
-            complain(rt, "standard input cannot be read\n");
-            return;
-        }
+    if got <= MAX_SHEET && !ended(&mut input) {
+        complain(rt, "standard input cannot be read\n");
+        return;
     }
     print_run(rt, &bytes[..got]);
 }

@@ -2,7 +2,8 @@
 use mathlib.Core.Path.{◌≡◌, refl, ap, ◌∙◌}
 use mathlib.Core.List.{List, ◌++◌}
 use mathlib.Core.Bool.{Bool, true, false, cond}
-use Rattle.std.specs.Prelude.{Result}
+use Rattle.std.specs.Prelude.{Option, Result}
+use Rattle.std.specs.Option.{unwrap_or}
 use Prim.Native.Nat.{ℕ, ◌^◌, ◌≤◌, ◌<◌}
 use native.Mathlib.Nat.{zero-add}
 use native.Mathlib.Omega.{arith}
@@ -14,7 +15,7 @@ use Rattle.lines.specs.Appended.{Appends}
 use Rattle.sheet.specs.Sheet.{sheet_of}
 use Rattle.sheet_run.specs.Output.{printed, output_of}
 use Rattle.sheet_run.specs.Run.{Ran}
-use Rattle.lines.specs.Put.{max_output}
+use Rattle.lines.specs.Put.{max_output, Put}
 use Rattle.sheet.specs.declared.answer.Fault.{Fault}
 use Rattle.sheet.specs.declared.answer.Sheet.{Sheet}
 use Rattle.sheet_run.proofs.RefusalMeaning.{every_word-shown}
@@ -46,6 +47,10 @@ module _ (sheet before : List ℕ) where
         closing = λ _. rw (output_there h B) (output_closed sheet);
         every_word = λ _. rw (output_there h B) (every_word-shown sheet f);
       }
+
+  pub ran_put : ((i : ℕ) → get_or sheet i 0 < 2 ^ 8) → {a : Result Sheet Fault} {r : Option ℕ} {after : List ℕ} → max_output ≤ length before
+      → a ≡ sheet_of sheet → Put (max_output ≤ length before) before (printed sheet a) after r → Ran sheet before (unwrap_or r 0) after
+  ran_put f h e P = let (m, some, A) = P.puts h in rw some (ran f h e A)
 
   pub ran-not : length before < max_output → Ran sheet before 0 before
   ran-not h =

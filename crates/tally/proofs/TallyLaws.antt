@@ -1,4 +1,4 @@
--- Laws of the tally: one word more, what the numbers add to, and how large they are. Assumes nothing.
+-- Laws of the tally: one word more, what the numbers add to, and how large they are.
 use mathlib.Core.Path.{◌≡◌, refl, sym, ap, ap₂, ◌∙◌}
 use mathlib.Core.Bool.{Bool, true, false}
 use mathlib.Core.List.{List, [], ◌∷◌, map}

@@ -5,7 +5,6 @@ ghost use Rattle.tally.specs.Tally.{adds};
 ghost use Rattle.tally.specs.Slots.{slot_outcome, slot_tally};
 
 use words::limits::MAX_WORDS;
-use words::lists::smaller;
 
 // The count of a far word.
 pub const FAR: u8 = 255;
@@ -23,10 +22,7 @@ pub struct Tally {
 fn places_in(count: u8) -> u32
     ensures { result ≡ (adds (slot_outcome count)).places }
 {
-    if count == FAR {
-        return 0;
-    }
-    count as u32
+    if count == FAR { 0 } else { u32::from(count) }
 }
 
 // The tally of so many words, by the counts that Decode leaves. Those that are neither clean nor far are mended.
@@ -37,13 +33,10 @@ fn tally_few(counts: &[u8]) -> Tally
     let mut clean: u32 = 0;
     let mut far: u32 = 0;
     let mut places: u32 = 0;
-    let mut i: usize = 0;
-    while i < counts.len() {
-        let count = counts[i];
-        clean += (count == 0) as u32;
-        far += (count == FAR) as u32;
+    for &count in counts {
+        clean += u32::from(count == 0);
+        far += u32::from(count == FAR);
         places += places_in(count);
-        i += 1;
     }
     Tally {
         clean,
@@ -57,6 +50,5 @@ fn tally_few(counts: &[u8]) -> Tally
 pub fn tally_of(counts: &[u8]) -> Tally
     ensures { result ≡ slot_tally (take max_words counts.now) }
 {
-    let m = smaller(MAX_WORDS, counts.len());
-    tally_few(&counts[..m])
+    tally_few(&counts[..MAX_WORDS.min(counts.len())])
 }

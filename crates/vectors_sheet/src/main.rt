@@ -44,7 +44,7 @@ fn print_run(rt: &(impl Input + Print)) {
     let mut bytes = [0u8; MAX_BYTES];
     let sheet = read_part(rt, &mut bytes, usize::from(u16::from_be_bytes(head)));
     let mut out = [0u8; MAX_OUTPUT];
-    let length = run(sheet, &mut out);
+    let length = run(sheet, &mut out).unwrap();
     write(rt, &out[..length]);
 }
 

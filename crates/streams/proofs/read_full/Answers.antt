@@ -1,5 +1,5 @@
 -- A read fills the buffer after what stands there, with the bytes that came next.
-use Rattle.std.proofs.Common.{◌-◌, length, take, sym, subst, arith, rules}
+use Rattle.std.proofs.Common.{sym, subst, arith, rules}
 use Rattle.std.specs.Io.KnownBytes.{Consumes}
 use Rattle.streams.proofs.ReadLaws.{consumes_on, take-put_mid_add}
 use Rattle.streams.proofs.read_full.Goals as goal

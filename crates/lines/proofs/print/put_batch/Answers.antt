@@ -1,11 +1,11 @@
 -- The first line, those of the words, then the closing line, where the batch can be printed.
-use Rattle.std.proofs.Common.{arith, rules, ap, ◌∙◌}
+use Rattle.std.proofs.Common.{arith, refl, sym, rules, ap, ◌∙◌}
 use Rattle.std.proofs.Math.Seq.{take_all}
 use Rattle.words.specs.Limits.{max_words}
 use Rattle.tally.specs.Slots.{slot_tally}
 use Rattle.lines.specs.Closing.{closing_line}
 use Rattle.lines.specs.Batch.{Printable}
-use Rattle.lines.proofs.AppendLaws.{appends_as, then, put_all}
+use Rattle.lines.proofs.WroteLaws.{then, wrote_as, put_lent}
 use Rattle.lines.proofs.print.put_batch.Goals as goal
 
 pub returns : goal.returns
@@ -16,7 +16,7 @@ returns c =
       few = omega arith;
       room = omega arith;
     } in
-    put_all P
-    (then (then c.put_code-a.ensures.appends c.put_lines-b.ensures.appends)
-    (appends_as c.put_closing.ensures _
-    (ap closing_line (c.tally_of.ensures ∙ ap slot_tally (take_all max_words c.args.counts.now (omega (arith, P.each, P.few)))))))
+    let closing = wrote_as c.put_closing.ensures _
+    (ap closing_line (c.tally_of.ensures ∙ ap slot_tally (take_all max_words c.args.counts.now (omega (arith, P.each, P.few))))) in
+    let lines = then (then c.put_code.ensures.wrote c.put_lines.ensures.wrote) closing in
+    put_lent P lines refl (search (rules, sym lines.lent))

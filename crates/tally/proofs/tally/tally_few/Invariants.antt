@@ -1,11 +1,6 @@
--- The words of the first i slots are counted.
-use Rattle.std.proofs.Common.{length, ◌-◌}
+-- The words of the slots so far are counted.
 use Rattle.tally.proofs.TallyLaws.{Counting}
 use Rattle.tally.proofs.tally.tally_few.Given as goal
 
-abbrev pub invariant-loop-i : goal.invariant-loop-i
-invariant-loop-i l = Counting l.counts l.i l.clean l.far l.places
-
--- proposed from the loop's first test
-abbrev pub decreases-loop-i : goal.decreases-loop-i
-decreases-loop-i l = length l.counts - l.i
+abbrev pub invariant-loop-count : goal.invariant-loop-count
+invariant-loop-count l = Counting l.counts l.count-index l.clean l.far l.places

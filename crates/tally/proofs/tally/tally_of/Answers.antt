@@ -7,4 +7,4 @@ use Rattle.tally.proofs.tally.tally_of.Goals as goal
 
 pub returns : goal.returns
 returns c =
-    c.tally_few.ensures ∙ ap slot_tally (take_most c.args.counts.now max_words c.smaller-m.result c.smaller-m.ensures)
+    c.tally_few.ensures ∙ ap slot_tally (take_most c.args.counts.now max_words c.min.result c.min.ensures)
