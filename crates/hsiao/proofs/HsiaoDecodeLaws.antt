@@ -1,5 +1,5 @@
 -- What Encode and Decode promise, over any number of check places and any columns of the rule: the check bits, the radius rules at 1, clean
--- and far. Assumes nothing.
+-- and far.
 use mathlib.Core.Path.{◌≡◌, refl, sym, ap, ◌∙◌}
 use mathlib.Core.Logic.{◌↔◌, ◌⊎◌, inl, inr}
 use mathlib.Core.List.{List}
@@ -20,11 +20,10 @@ use Rattle.coding.proofs.ColumnLaws.{split_discrete, split-distance_sym, split-d
 use Rattle.coding.proofs.ColumnLaws.{four-apart, IsColumn, check_changed_distance, info_changed_distance, mend_check, mend_info, near_syndrome}
 use Rattle.hsiao.specs.Table.{split}
 use Rattle.hsiao.specs.Outcome.{with_check, with_data, outcome_at, outcome_by}
-use Rattle.outcomes.specs.Outcome.{word_in, count_in}
+use Rattle.outcomes.specs.Outcome.{word_in, count_in, corrected}
 use Rattle.hsiao.specs.Encoded.{EncodedBy}
 use Rattle.hsiao.specs.Decoded.{DecodedBy}
 use Rattle.hsiao.specs.declared.word.Word.{Word}
-use Rattle.hsiao.specs.declared.decoding.Decoding.{Decoding}
 use Rattle.outcomes.specs.declared.ending.Outcome.{Outcome}
 use Rattle.outcomes.specs.declared.ending.Outcome.TheVariants.{Clean, Mended, Far}
 use Rattle.hsiao.proofs.PlaceLaws.{place-column, place_upto}
@@ -165,12 +164,12 @@ encoded_by c cols f {x} h e = record {
 }
 
 pub decoded_by : (c : ℕ) (cols : List ℕ) → OddColumns c cols → SplitMinimumDistance c cols 4 → (w : Word) → SplitPlaces c cols (split w)
-    → (r : Decoding) → r.word ≡ word_in (outcome_by c cols w) w → r.count ≡ count_in (outcome_by c cols w) → DecodedBy c cols w r
-decoded_by c cols K m w P r f g = record {
-  word = f;
-  count = g;
+    → DecodedBy c cols w (corrected (outcome_by c cols w) w)
+decoded_by c cols K m w P = record {
+  word = refl;
+  count = refl;
   minimum = m;
-  within = rw (f, g) (radius-one c cols K w P);
-  clean = rw g (told c cols w (split_syndrome c cols (split w))).0;
-  far = rw g (told c cols w (split_syndrome c cols (split w))).1;
+  within = radius-one c cols K w P;
+  clean = (told c cols w (split_syndrome c cols (split w))).0;
+  far = (told c cols w (split_syndrome c cols (split w))).1;
 }

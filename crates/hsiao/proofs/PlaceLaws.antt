@@ -1,20 +1,22 @@
--- Laws of the search for a place: the place found of a column, the number of a column, and both among the first places. Assumes nothing.
+-- Laws of the search for a place: the place found of a column, the number of a column, and both among the first places.
 use mathlib.Core.Path.{◌≡◌, refl, sym, ap, ◌∙◌}
 use mathlib.Core.List.{List}
 use mathlib.Core.Bool.{Bool, true, false, cond}
-use Prim.Native.Nat.{ℕ, suc, ◌+◌, ◌≤◌, ◌<◌}
+use mathlib.Core.Logic.{◌≢◌, ◌⊎◌, inl, inr}
+use Rattle.std.proofs.Common.{Some, None}
+use Prim.Native.Nat.{ℕ, suc, ◌+◌, ◌-◌, ◌≤◌, ◌<◌}
 use native.Mathlib.Nat.{le_refl, zero-add}
 use native.Mathlib.Numerals.{add-one}
 use native.Mathlib.Decide.{dec_le, ℕ_discrete}
 use native.Mathlib.Omega.{arith}
 use lib.Dec.{eqb, ltb}
 use lib.ListN.{length, get_or, take}
-use lib.Seq.{length-take-le, get_or-take}
-use borrow.Author.Tests.{eqb-true, eq-eqb, lt-ltb, le-ltb, ltb-false}
+use lib.Seq.{length-take-le, get_or-take, take_all}
+use borrow.Author.Tests.{eqb-true, eq-eqb, lt-ltb, le-ltb, ltb-true, ltb-false}
 use Rattle.coding.specs.Lists.{first}
 use Rattle.coding.specs.Columns.{column_place}
 use Rattle.coding.proofs.SearchLaws.{first-le, first_hit, first-before, first_is, first_upto}
-use Rattle.hsiao.specs.Inner.Number.{column_number}
+use Rattle.hsiao.specs.Inner.Number.{column_number, some_place}
 
 -- ---- one more than the first index below i that passes, or 0 where none does
 
@@ -98,7 +100,7 @@ module _ (cols : List ℕ) (m : ℕ) (l : m ≤ length cols) (s : ℕ) where
           absurd (omega (arith, h, v, place_upto cols s (column_place (take m cols) s) (omega (arith, v, l)) (front_column v)))
 
   -- a number above m is that of a later place
-  pub number_beyond : m < column_number cols s → 0 ≡ column_number (take m cols) s
+  number_beyond : m < column_number cols s → 0 ≡ column_number (take m cols) s
   number_beyond h = go (ltb (column_place cols s) (length cols)) h
     where
       go : (b : Bool) → m < cond b (suc (column_place cols s)) 0 → 0 ≡ column_number (take m cols) s
@@ -106,7 +108,7 @@ module _ (cols : List ℕ) (m : ℕ) (l : m ≤ length cols) (s : ℕ) where
       go false k = absurd (omega (arith, k))
 
   -- and any other stays
-  pub number_front : column_number cols s ≤ m → column_number cols s ≡ column_number (take m cols) s
+  number_front : column_number cols s ≤ m → column_number cols s ≡ column_number (take m cols) s
   number_front h = go (ltb (column_place cols s) (length cols)) refl h
     where
       go : (b : Bool) → ltb (column_place cols s) (length cols) ≡ b → cond b (suc (column_place cols s)) 0 ≤ m
@@ -118,3 +120,47 @@ module _ (cols : List ℕ) (m : ℕ) (l : m ≤ length cols) (s : ℕ) where
           rw
           (le-ltb (column_place (take m cols) s) (length (take m cols))
           (omega (arith, front_length, front_none (omega (arith, l, ltb-false (column_place cols s) (length cols) e)))))
+
+-- ---- the place by its number
+
+module _ (cols : List ℕ) (s : ℕ) where
+  none_numbered : 0 ≡ column_number cols s → None ≡ some_place cols s
+  none_numbered h = go (ltb (column_place cols s) (length cols)) h
+    where
+      go : (b : Bool) → 0 ≡ cond b (suc (column_place cols s)) 0 → None ≡ cond b (Some (column_place cols s)) None
+      go true k = absurd (omega (arith, k))
+      go false k = refl
+
+  some_numbered : (n : ℕ) → n ≡ column_number cols s → n ≢ 0 → Some (n - 1) ≡ some_place cols s
+  some_numbered n h ne = go (ltb (column_place cols s) (length cols)) h
+    where
+      go : (b : Bool) → n ≡ cond b (suc (column_place cols s)) 0 → Some (n - 1) ≡ cond b (Some (column_place cols s)) None
+      go true k = ap Some (omega (arith, k))
+      go false k = absurd (ne k)
+
+  number-le : column_number cols s ≤ length cols
+  number-le = go (ltb (column_place cols s) (length cols)) refl
+    where
+      go : (b : Bool) → ltb (column_place cols s) (length cols) ≡ b → cond b (suc (column_place cols s)) 0 ≤ length cols
+      go true e = omega (arith, ltb-true (column_place cols s) (length cols) e)
+      go false e = omega arith
+
+-- among the first m places: none where there is no column s, or a later one
+module _ (cols : List ℕ) (m s n : ℕ) (e : n ≡ column_number cols s) where
+  pub place_none : (n ≡ 0) ⊎ (m < n) → None ≡ some_place (take m cols) s
+  place_none (inl z) = none_numbered (take m cols) s (go (dec_le m (length cols)))
+    where
+      z₀ : column_number cols s ≡ 0
+      z₀ = sym e ∙ z
+
+      go : Dec (m ≤ length cols) → 0 ≡ column_number (take m cols) s
+      go (yes l) = sym z₀ ∙ number_front cols m l s (omega (arith, z₀))
+      go (no l) = sym z₀ ∙ ap (λ (c : List ℕ). column_number c s) (sym (take_all m cols (omega (arith, l))))
+  place_none (inr h) = none_numbered (take m cols) s (number_beyond cols m (omega (arith, h, e, number-le cols s)) s (omega (arith, h, e)))
+
+  pub place_some : n ≢ 0 → n ≤ m → Some (n - 1) ≡ some_place (take m cols) s
+  place_some ne h = some_numbered (take m cols) s n (e ∙ go (dec_le m (length cols))) ne
+    where
+      go : Dec (m ≤ length cols) → column_number cols s ≡ column_number (take m cols) s
+      go (yes l) = number_front cols m l s (omega (arith, h, e))
+      go (no l) = ap (λ (c : List ℕ). column_number c s) (sym (take_all m cols (omega (arith, l))))

@@ -1,9 +1,10 @@
 -- Laws of the outcome of a word by the tests of its syndrome s. That s is a single bit exactly when s and s - 1 share none is computed
--- for every byte. Assumes nothing.
+-- for every byte.
 use mathlib.Core.Path.{◌≡◌, refl, sym, ap, ◌∙◌}
 use mathlib.Core.Logic.{◌≢◌}
 use mathlib.Core.Bool.{Bool, true, false, cond, ◌&&◌}
 use mathlib.Core.List.{List}
+use Rattle.std.proofs.Common.{Some, None}
 use Prim.Native.Nat.{ℕ, zero, suc, ◌-◌, ◌^◌, ◌<◌}
 use native.Mathlib.Decide.{ℕ_discrete}
 use native.Mathlib.Omega.{arith}
@@ -14,7 +15,7 @@ use borrow.Author.Tests.{eq-eqb, ne_eqb, ltb-true}
 use Rattle.coding.specs.Word.{◌⊕◌}
 use Rattle.coding.specs.Columns.{units, column_place}
 use Rattle.hsiao.specs.Outcome.{with_data, outcome_at}
-use Rattle.hsiao.specs.Inner.Number.{column_number}
+use Rattle.hsiao.specs.Inner.Number.{some_place}
 use Rattle.hsiao.specs.declared.word.Word.{Word}
 use Rattle.outcomes.specs.declared.ending.Outcome.TheVariants.{Mended, Far}
 
@@ -76,21 +77,21 @@ module _ (s : ℕ) (h : s < 256) (ne : s ≢ 0) where
       let (b, e) = unit_yes z in
       rw (ne_eqb s 0 ne, b) (ap (λ (x : ℕ). Mended (record { check = w.check ⊕ x; «data» = w.«data» }) 1) (sym e))
 
-  module _ (cols : List ℕ) (w : Word) (n : ℕ) (k : bit_and s (s - 1) ≢ 0) (is : n ≡ column_number cols s) where
-    pub outcome_far : n ≡ 0 → Far ≡ outcome_at 8 cols w s
-    outcome_far z = rw (ne_eqb s 0 ne, unit_no k) (go (ltb (column_place cols s) (length cols)) (sym is ∙ z))
+  module _ (cols : List ℕ) (w : Word) (k : bit_and s (s - 1) ≢ 0) where
+    pub outcome_far : None ≡ some_place cols s → Far ≡ outcome_at 8 cols w s
+    outcome_far e = rw (ne_eqb s 0 ne, unit_no k) (go (ltb (column_place cols s) (length cols)) e)
       where
-        go : (b : Bool) → cond b (suc (column_place cols s)) 0 ≡ 0 → Far ≡ cond b (Mended (with_data w (column_place cols s)) 1) Far
-        go true e = absurd (omega (arith, e))
-        go false e = refl
+        go : (b : Bool) → None ≡ cond b (Some (column_place cols s)) None → Far ≡ cond b (Mended (with_data w (column_place cols s)) 1) Far
+        go true f = absurd cc
+        go false f = refl
 
     -- a column: that data place is mended
-    pub outcome_data : n ≢ 0 → (n - 1 < length cols) × (Mended (with_data w (n - 1)) 1 ≡ outcome_at 8 cols w s)
-    outcome_data z = go (ltb (column_place cols s) (length cols)) refl is
+    pub outcome_data : (i : ℕ) → Some i ≡ some_place cols s → (i < length cols) × (Mended (with_data w i) 1 ≡ outcome_at 8 cols w s)
+    outcome_data i e = go (ltb (column_place cols s) (length cols)) refl e
       where
-        go : (b : Bool) → ltb (column_place cols s) (length cols) ≡ b → n ≡ cond b (suc (column_place cols s)) 0
-            → (n - 1 < length cols) × (Mended (with_data w (n - 1)) 1 ≡ outcome_at 8 cols w s)
-        go false e f = absurd (z f)
-        go true e f =
-            let q : n - 1 ≡ column_place cols s = omega (arith, f) in
-            (omega (arith, ltb-true (column_place cols s) (length cols) e), rw (q, ne_eqb s 0 ne, unit_no k, e))
+        go : (b : Bool) → ltb (column_place cols s) (length cols) ≡ b → Some i ≡ cond b (Some (column_place cols s)) None
+            → (i < length cols) × (Mended (with_data w i) 1 ≡ outcome_at 8 cols w s)
+        go false t f = absurd cc
+        go true t f =
+            let q : i ≡ column_place cols s = cc in
+            (omega (arith, q, ltb-true (column_place cols s) (length cols) t), rw (q, ne_eqb s 0 ne, unit_no k, t))

@@ -1,11 +1,10 @@
-// The columns of the data places, and the data place of a column. The table is lent, not made where it is read, so that the compiler
-// writes each function into its callers.
+// The columns of the data places, and the data place of a column.
 ghost use Rattle.std.specs.Prelude.{◌≡◌, take};
 ghost use Rattle.hsiao.specs.Table.{columns};
-ghost use Rattle.hsiao.specs.Inner.Number.{column_number};
+ghost use Rattle.hsiao.specs.Inner.Number.{column_number, some_place};
 
 // The 56 bytes of weight 3 in rising order, then eight of weight 5.
-pub(crate) const COLUMNS: [u8; 64] = [
+const COLUMNS: [u8; 64] = [
     0x07, 0x0B, 0x0D, 0x0E, 0x13, 0x15, 0x16, 0x19, 0x1A, 0x1C, 0x23, 0x25, 0x26, 0x29, 0x2A, 0x2C,
     0x31, 0x32, 0x34, 0x38, 0x43, 0x45, 0x46, 0x49, 0x4A, 0x4C, 0x51, 0x52, 0x54, 0x58, 0x61, 0x62,
     0x64, 0x68, 0x70, 0x83, 0x85, 0x86, 0x89, 0x8A, 0x8C, 0x91, 0x92, 0x94, 0x98, 0xA1, 0xA2, 0xA4,
@@ -27,17 +26,13 @@ fn numbered(table: &[u8; 64], s: u8) -> u8
     n
 }
 
-// The same among the columns of the first `places` data places.
-pub(crate) fn numbered_within(table: &[u8; 64], places: u8, s: u8) -> u8
-    requires { table.now ≡ columns }
-    ensures { result ≡ column_number (take places columns) s }
+// The data place, among the first `places`, whose column is s.
+pub(crate) fn data_place(places: u32, s: u8) -> Option<u8>
+    ensures { result ≡ some_place (take places columns) s }
 {
-    let n = numbered(table, s);
-    if 64 <= places {
-        return n;
+    let n = numbered(&COLUMNS, s);
+    if n == 0 || places < u32::from(n) {
+        return None;
     }
-    if places < n {
-        return 0;
-    }
-    n
+    Some(n - 1)
 }

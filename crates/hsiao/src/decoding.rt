@@ -3,21 +3,11 @@ ghost use Rattle.hsiao.specs.Decoded.{Decoded};
 
 use crate::ending::outcome_of;
 use crate::word::Word;
+use outcomes::Correction;
 
-// The word and its count; a far word is answered unchanged with count 255.
-#[derive(Drop)]
-pub struct Decoding {
-    pub word: Word,
-    pub count: u8,
-}
-
-// Syndrome 0 is clean, a column mends its place, any other is far.
-pub fn decode(w: Word) -> Decoding
+// Syndrome 0 is clean, a column mends its place, any other is far: such a word is answered unchanged with count 255.
+pub fn decode(w: Word) -> Correction<Word>
     ensures { Decoded w result }
 {
-    let o = outcome_of(w);
-    Decoding {
-        word: o.word(w),
-        count: o.count(),
-    }
+    outcome_of(w).correction(w)
 }

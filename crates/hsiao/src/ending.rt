@@ -3,33 +3,33 @@ ghost use Rattle.std.specs.Prelude.{◌≡◌, take};
 ghost use Rattle.hsiao.specs.Table.{columns};
 ghost use Rattle.hsiao.specs.Outcome.{outcome_at, outcome_of};
 
-use crate::columns::{COLUMNS, numbered_within};
+use crate::columns::data_place;
 use crate::syndromes::syndrome;
 use crate::word::Word;
 use outcomes::Outcome;
 
 // The outcome by the syndrome s and the columns of the first `places` data places: 0 is clean, a column mends its place, any other is
 // far.
-pub(crate) fn outcome_at(table: &[u8; 64], places: u8, w: Word, s: u8) -> Outcome<Word>
-    requires { table.now ≡ columns }
+pub(crate) fn outcome_at(places: u32, w: Word, s: u8) -> Outcome<Word>
     ensures { result ≡ outcome_at 8 (take places columns) w s }
 {
     if s == 0 {
         return Outcome::Clean(w);
     }
     if s & (s - 1) == 0 {
-        let check = w.check ^ s;
-        let data = w.data;
-        let mended = Word { check, data };
+        let mended = Word {
+            check: w.check ^ s,
+            data: w.data,
+        };
         return Outcome::Mended(mended, 1);
     }
-    let n = numbered_within(table, places, s);
-    if n == 0 {
+    let Some(i) = data_place(places, s) else {
         return Outcome::Far;
-    }
-    let check = w.check;
-    let data = w.data ^ (1u64 << (n - 1));
-    let mended = Word { check, data };
+    };
+    let mended = Word {
+        check: w.check,
+        data: w.data ^ (1u64 << i),
+    };
     Outcome::Mended(mended, 1)
 }
 
@@ -37,7 +37,6 @@ pub(crate) fn outcome_at(table: &[u8; 64], places: u8, w: Word, s: u8) -> Outcom
 pub fn outcome_of(w: Word) -> Outcome<Word>
     ensures { result ≡ outcome_of w }
 {
-    let table = COLUMNS;
     let s = syndrome(w);
-    outcome_at(&table, 64, w, s)
+    outcome_at(64, w, s)
 }

@@ -1,35 +1,71 @@
 // Document 02, No. 3: the codes of 16, 32 and 64 data bits, (22,16), (39,32) and (72,64), by this number, their width. The columns of the
 // shorter codes are the first ones of the table: they are the (72,64) code shortened, and have its sum of columns, syndrome and scan.
-ghost use Rattle.std.specs.Prelude.{◌≡◌, ◌^◌, ltb};
-ghost use Rattle.hsiao.specs.Widths.Causes.{has_places};
+ghost use Rattle.std.specs.Prelude.{◌≡◌, true};
+ghost use Rattle.answers.specs.Refusal.{done, answered};
+ghost use Rattle.hsiao.specs.Widths.Code.{checks_of};
+ghost use Rattle.hsiao.specs.Widths.Causes.{width_answer, word_answer};
+ghost use Rattle.hsiao.specs.Widths.Encoded.{Encoded};
+ghost use Rattle.hsiao.specs.Widths.Decoded.{Decoded};
+ghost use Rattle.hsiao.specs.Widths.MessageRead.{MessageRead};
 
+use crate::encoding::column_sum;
+use crate::ending::outcome_at;
+use crate::syndromes::syndrome;
 use crate::word::Word;
+use answers::Refusal;
+use outcomes::Correction;
 
-pub mod decoding; // Decode at radius 1
-pub mod encoding; // Encode
-pub mod read_back; // Message: the data of a codeword
-
-pub use crate::widths::decoding::decode;
-pub use crate::widths::encoding::encode;
-pub use crate::widths::read_back::message;
-
-// Whether x has no one at place `places` or beyond.
-pub(crate) fn fits(x: u64, places: u8) -> bool
-    ensures { result ≡ ltb x (2 ^ places) }
+// The number of check bits; a number that is no width is refused.
+fn checks_of(width: u32) -> Result<u32, Refusal>
+    ensures { result ≡ answered (width_answer width true done) (checks_of width) }
 {
-    if places < 64 {
-        (x >> places) == 0
-    } else {
-        true
+    match width {
+        16 => Ok(6),
+        32 => Ok(7),
+        64 => Ok(8),
+        _ => Err(Refusal::NoWidth),
     }
 }
 
-// Whether the word has no one beyond its check bits and data bits.
-pub(crate) fn has_places(checks: u8, places: u8, w: Word) -> bool
-    ensures { result ≡ has_places checks places w }
+// Causes 14 and 15: a number that is no width, then a word with a one beyond its check bits and data bits.
+fn word_cause(width: u32, w: Word) -> Result<(), Refusal>
+    ensures { result ≡ word_answer width w done }
 {
-    if !fits(w.check as u64, checks) {
-        return false;
+    let checks = checks_of(width)?;
+    let check_beyond = w.check.checked_shr(checks).unwrap_or(0);
+    let data_beyond = w.data.checked_shr(width).unwrap_or(0);
+    if check_beyond != 0 || data_beyond != 0 {
+        return Err(Refusal::BeyondWidth);
     }
-    fits(w.data, places)
+    Ok(())
+}
+
+// The check bits that make the data a codeword. A width other than 16, 32 or 64 is refused, then data beyond it.
+pub fn encode(width: u32, bits: u64) -> Result<u8, Refusal>
+    ensures { Encoded width bits result }
+{
+    let data = Word {
+        check: 0,
+        data: bits,
+    };
+    word_cause(width, data)?;
+    Ok(column_sum(bits))
+}
+
+// Decode at radius 1: syndrome 0 is clean, a column of the width mends its place, any other is far. A width other than 16, 32 or 64 is
+// refused, then a word beyond it.
+pub fn decode(width: u32, received: Word) -> Result<Correction<Word>, Refusal>
+    ensures { Decoded width received result }
+{
+    word_cause(width, received)?;
+    let s = syndrome(received);
+    Ok(outcome_at(width, received, s).correction(received))
+}
+
+// Message: the data of a codeword; any other word is refused, before that a width other than 16, 32 or 64, and a word beyond it.
+pub fn message(width: u32, w: Word) -> Result<u64, Refusal>
+    ensures { MessageRead width w result }
+{
+    word_cause(width, w)?;
+    crate::message(w)
 }

@@ -1,9 +1,7 @@
 -- 02, No. 3: causes 14 and 15, in this order before anything else.
 use Rattle.std.specs.Prelude.{Bool, ◌&&◌, ℕ, ◌^◌, ltb}
-use Rattle.answers.specs.Refusal.{unless}
+use Rattle.answers.specs.Refusal.{Answer, done, unless}
 use Rattle.answers.specs.declared.answer.Refusal.TheVariants.{NoWidth, BeyondWidth}
-use Rattle.answers.specs.declared.answer.Answer.{Answer}
-use Rattle.answers.specs.declared.answer.Answer.TheVariants.{Done}
 use Rattle.hsiao.specs.Widths.Code.{is_width, checks_of}
 use Rattle.hsiao.specs.declared.word.Word.{Word}
 
@@ -16,7 +14,7 @@ abbrev pub width_answer : ℕ → Bool → Answer → Answer
 width_answer width within later = unless (is_width width) NoWidth (unless within BeyondWidth later)
 
 abbrev pub data_answer : ℕ → ℕ → Answer
-data_answer width bits = width_answer width (ltb bits (2 ^ width)) Done
+data_answer width bits = width_answer width (ltb bits (2 ^ width)) done
 
 abbrev pub word_answer : ℕ → Word → Answer → Answer
 word_answer width w later = width_answer width (has_places (checks_of width) width w) later

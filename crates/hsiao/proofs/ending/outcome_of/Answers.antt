@@ -1,14 +1,10 @@
 -- All 64 columns, and the syndrome of the word.
-use Rattle.std.proofs.Common.{refl, ap₂, ◌∙◌, ℕ, List, le_of_eq}
+use Rattle.std.proofs.Common.{ap₂, ◌∙◌, ℕ, List, le_of_eq}
 use lib.Seq.{take_all}
 use Rattle.hsiao.specs.Table.{columns}
 use Rattle.hsiao.specs.Outcome.{outcome_at}
 use Rattle.hsiao.proofs.HsiaoTableLaws.{columns-length}
 use Rattle.hsiao.proofs.ending.outcome_of.Goals as goal
-
-pub outcome_at-requires : goal.outcome_at-requires
-unfolding columns
-outcome_at-requires c = refl
 
 pub returns : goal.returns
 returns c =
