@@ -6,8 +6,10 @@ ghost use Rattle.interleaving.specs.Deinterleaved.{Deinterleaved};
 ghost use Rattle.interleaving.specs.Decoded.{DecodedInterleaved};
 ghost use Rattle.telling.specs.Told.{Told};
 
+use decoder::Lent;
 use interleaving::{decode, deinterleave, interleave};
 use telling::tell;
+use words::shape::Matrix;
 
 // Writes the words as interleaved bits, one byte a bit.
 #[unsafe(no_mangle)]
@@ -25,8 +27,8 @@ pub extern "C" fn relay_interleave(
         result
         value.new }
 {
-    let a = interleave(n, k, rows, words, bits);
-    tell(a, value)
+    let (number, _) = tell(interleave(&Matrix { n, k, rows }, words, bits), (), value);
+    number
 }
 
 // Writes the words that the bits say.
@@ -46,8 +48,8 @@ pub extern "C" fn relay_deinterleave(
         result
         value.new }
 {
-    let a = deinterleave(n, k, rows, depth, bits, out);
-    tell(a, value)
+    let (number, _) = tell(deinterleave(&Matrix { n, k, rows }, depth, bits, out), (), value);
+    number
 }
 
 // Decodes the words that the bits say, within the radius; the working list becomes the leaders.
@@ -75,6 +77,11 @@ pub extern "C" fn relay_decode_interleaved(
         result
         value.new }
 {
-    let a = decode(n, k, rows, radius, depth, bits, out, counts, work);
-    tell(a, value)
+    let mut lent = Lent {
+        codewords: out,
+        counts,
+        work,
+    };
+    let (number, _) = tell(decode(&Matrix { n, k, rows }, radius, depth, bits, &mut lent), (), value);
+    number
 }
