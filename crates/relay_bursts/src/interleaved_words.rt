@@ -27,8 +27,7 @@ pub extern "C" fn relay_interleave(
         result
         value.new }
 {
-    let (number, _) = tell(interleave(&Matrix { n, k, rows }, words, bits), (), value);
-    number
+    tell(interleave(&Matrix { n, k, rows }, words, bits), (), value).0
 }
 
 // Writes the words that the bits say.
@@ -48,8 +47,7 @@ pub extern "C" fn relay_deinterleave(
         result
         value.new }
 {
-    let (number, _) = tell(deinterleave(&Matrix { n, k, rows }, depth, bits, out), (), value);
-    number
+    tell(deinterleave(&Matrix { n, k, rows }, depth, bits, out), (), value).0
 }
 
 // Decodes the words that the bits say, within the radius; the working list becomes the leaders.
@@ -82,6 +80,5 @@ pub extern "C" fn relay_decode_interleaved(
         counts,
         work,
     };
-    let (number, _) = tell(decode(&Matrix { n, k, rows }, radius, depth, bits, &mut lent), (), value);
-    number
+    tell(decode(&Matrix { n, k, rows }, radius, depth, bits, &mut lent), (), value).0
 }

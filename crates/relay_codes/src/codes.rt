@@ -113,8 +113,7 @@ pub extern "C" fn relay_encode(
         result
         value.new }
 {
-    let (number, _) = tell(encode(&Matrix { n, k, rows }, messages, out), (), value);
-    number
+    tell(encode(&Matrix { n, k, rows }, messages, out), (), value).0
 }
 
 // Writes the message of each codeword.
@@ -133,8 +132,7 @@ pub extern "C" fn relay_message(
         result
         value.new }
 {
-    let (number, _) = tell(message(&Matrix { n, k, rows }, words, out), (), value);
-    number
+    tell(message(&Matrix { n, k, rows }, words, out), (), value).0
 }
 
 // Decodes each word, as the nearest codeword where `within` is 0, else within the radius; the working list becomes the leaders.
@@ -172,6 +170,5 @@ pub extern "C" fn relay_decode(
         counts,
         work,
     };
-    let (number, _) = tell(decode(&batch, &mut lent), (), value);
-    number
+    tell(decode(&batch, &mut lent), (), value).0
 }
