@@ -12,7 +12,13 @@ use words::shape::Matrix;
 
 // Decodes the words that the bits say, within the radius. The codewords are walked once: by Decode, or, where the bits are refused, for
 // causes 1 to 5, which come first. Words of more places than any code has are refused before bits are read by them.
-pub fn decode(matrix: &Matrix, radius: u32, depth: usize, bits: &[u8], lent: &mut Lent) -> Result<(), Refusal>
+pub fn decode(
+    matrix: &Matrix,
+    radius: u32,
+    depth: usize,
+    bits: &[u8],
+    lent: &mut Lent,
+) -> Result<(), Refusal>
     ensures { DecodedInterleaved
         (record { n = matrix.now.n; k = matrix.now.k; rows = matrix.now.rows.now; radius = radius; depth = depth; bits = bits.now })
         (record { codewords = lent.old.codewords.now; counts = lent.old.counts.now; work = lent.old.work.now })

@@ -49,7 +49,12 @@ pub(crate) fn sort_words(bits: &[u8], depth: usize, n: u32, out: &mut [u32])
 }
 
 // Writes the words that the bits say.
-pub fn deinterleave(matrix: &Matrix, depth: usize, bits: &[u8], out: &mut [u32]) -> Result<(), Refusal>
+pub fn deinterleave(
+    matrix: &Matrix,
+    depth: usize,
+    bits: &[u8],
+    out: &mut [u32],
+) -> Result<(), Refusal>
     ensures { Deinterleaved matrix.now.n matrix.now.k matrix.now.rows.now depth bits.now out.old result out.new }
 {
     accept(matrix)?;

@@ -27,7 +27,9 @@ pub extern "C" fn relay_interleave(
         result
         value.new }
 {
-    tell(interleave(&Matrix { n, k, rows }, words, bits), (), value).0
+    let matrix = Matrix { n, k, rows };
+    let r = interleave(&matrix, words, bits);
+    tell(r, (), value).0
 }
 
 // Writes the words that the bits say.
@@ -47,7 +49,9 @@ pub extern "C" fn relay_deinterleave(
         result
         value.new }
 {
-    tell(deinterleave(&Matrix { n, k, rows }, depth, bits, out), (), value).0
+    let matrix = Matrix { n, k, rows };
+    let r = deinterleave(&matrix, depth, bits, out);
+    tell(r, (), value).0
 }
 
 // Decodes the words that the bits say, within the radius; the working list becomes the leaders.
@@ -75,10 +79,12 @@ pub extern "C" fn relay_decode_interleaved(
         result
         value.new }
 {
+    let matrix = Matrix { n, k, rows };
     let mut lent = Lent {
         codewords: out,
         counts,
         work,
     };
-    tell(decode(&Matrix { n, k, rows }, radius, depth, bits, &mut lent), (), value).0
+    let r = decode(&matrix, radius, depth, bits, &mut lent);
+    tell(r, (), value).0
 }

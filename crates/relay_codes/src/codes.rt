@@ -50,6 +50,7 @@ pub extern "C" fn relay_describe(
         result
         value.new }
 {
+    let matrix = Matrix { n, k, rows };
     let none = Description {
         rows: [0u32; MAX_ROWS],
         checks: [0u32; MAX_CHECKS],
@@ -59,7 +60,7 @@ pub extern "C" fn relay_describe(
             lightest: 0,
         },
     };
-    let (number, d) = tell(describe(&Matrix { n, k, rows }), none, value);
+    let (number, d) = tell(describe(&matrix), none, value);
     *reduced = d.rows;
     *checks = d.checks;
     *counts = d.weights.counts;
@@ -87,11 +88,12 @@ pub extern "C" fn relay_leaders(
         result
         value.new }
 {
+    let matrix = Matrix { n, k, rows };
     let none = Leaders {
         checks: [0u32; MAX_CHECKS],
         tried: 0,
     };
-    let (number, l) = tell(leaders_of(&Matrix { n, k, rows }, leaders), none, value);
+    let (number, l) = tell(leaders_of(&matrix, leaders), none, value);
     *checks = l.checks;
     *tried = l.tried;
     number
@@ -113,7 +115,9 @@ pub extern "C" fn relay_encode(
         result
         value.new }
 {
-    tell(encode(&Matrix { n, k, rows }, messages, out), (), value).0
+    let matrix = Matrix { n, k, rows };
+    let r = encode(&matrix, messages, out);
+    tell(r, (), value).0
 }
 
 // Writes the message of each codeword.
@@ -132,7 +136,9 @@ pub extern "C" fn relay_message(
         result
         value.new }
 {
-    tell(message(&Matrix { n, k, rows }, words, out), (), value).0
+    let matrix = Matrix { n, k, rows };
+    let r = message(&matrix, words, out);
+    tell(r, (), value).0
 }
 
 // Decodes each word, as the nearest codeword where `within` is 0, else within the radius; the working list becomes the leaders.
@@ -170,5 +176,6 @@ pub extern "C" fn relay_decode(
         counts,
         work,
     };
-    tell(decode(&batch, &mut lent), (), value).0
+    let r = decode(&batch, &mut lent);
+    tell(r, (), value).0
 }
