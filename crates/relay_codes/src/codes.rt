@@ -15,9 +15,12 @@ ghost use Rattle.telling.specs.Told.{Told, Wrote};
 use decoder::{Lent, decode};
 use encoder::{encode, message};
 use judging::Batch;
-use leaders::{Leaders, leaders_of};
+use leaders::leaders::Leaders;
+use leaders::leaders_of;
 use telling::{reading_of, tell};
-use weights::{Description, Weights, describe};
+use weights::describe;
+use weights::description::Description;
+use weights::weights::Weights;
 use words::limits::{MAX_CHECKS, MAX_ROWS, WEIGHT_SLOTS};
 use words::shape::Matrix;
 
@@ -61,9 +64,12 @@ pub extern "C" fn relay_describe(
         },
     };
     let (number, d) = tell(describe(&matrix), none, value);
-    *reduced = d.rows;
-    *checks = d.checks;
-    *counts = d.weights.counts;
+    let first = d.rows;
+    let second = d.checks;
+    let third = d.weights.counts;
+    *reduced = first;
+    *checks = second;
+    *counts = third;
     *dmin = d.weights.dmin;
     *lightest = d.weights.lightest;
     number
@@ -94,7 +100,8 @@ pub extern "C" fn relay_leaders(
         tried: 0,
     };
     let (number, l) = tell(leaders_of(&matrix, leaders), none, value);
-    *checks = l.checks;
+    let first = l.checks;
+    *checks = first;
     *tried = l.tried;
     number
 }
