@@ -15,11 +15,10 @@ use Rattle.words.specs.Limits.{max_places}
 use Rattle.answers.specs.Refusal.{number_of, and_then, Between, Answer, done}
 use Rattle.words.specs.Widest.{EveryRow}
 use Rattle.words.specs.Shape.{shape_answer}
-use Rattle.words.specs.Accepted.{matrix_answer}
 use Rattle.answers.specs.declared.answer.Refusal.{Refusal}
 use Rattle.answers.specs.declared.answer.Refusal.TheVariants.{OutOfRange}
-use Rattle.answers.proofs.AnswerLaws.{refused_done, stays, goes, Numbered, and_then-numbered, numbered_as}
-use Rattle.answers.proofs.AnswerLaws.{never_done, never_of}
+use Rattle.answers.proofs.AnswerLaws.{refused_done, goes, Numbered, and_then-numbered, numbered_as}
+use Rattle.answers.proofs.AnswerLaws.{never_of}
 use Rattle.words.proofs.ShapeLaws.{every_row_of, rows_first}
 use Rattle.words.proofs.AcceptedLaws.{shape_refused}
 use Rattle.outcomes.specs.Outcome.{word_of}
@@ -28,7 +27,7 @@ use Rattle.outcomes.specs.declared.ending.Reading.TheVariants.{Within}
 use Rattle.decoder.specs.Causes.{lists_answer, decode_answer}
 use Rattle.judging.specs.Causes.{code_answer}
 use Rattle.decoder.specs.Decoded.{Lent, Decoded}
-use Rattle.judging.proofs.CauseLaws.{accepted_past, at_matrix, code_numbered, code_every_row}
+use Rattle.judging.proofs.CauseLaws.{accepted_past, at_matrix, code_numbered}
 use Rattle.decoder.proofs.DecodeCauseLaws.{lists_last}
 use Rattle.interleaving.specs.Causes.{bits_answer, interleaved_answer}
 use Rattle.interleaving.specs.Decoded.{Received, sorted_batch, InterleavedNumber, DecodedInterleaved}

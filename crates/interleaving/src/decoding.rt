@@ -1,10 +1,11 @@
 // Decode within a radius after sorting back.
+ghost use Rattle.decoder.specs.Given.{lists_of, SameLists};
 ghost use Rattle.interleaving.specs.Decoded.{DecodedInterleaved};
 
 use crate::causes::bits_cause;
 use crate::sorting::sort_words;
 use answers::Refusal;
-use decoder::Lent;
+use decoder::batch::Lent;
 use judging::{Batch, code_cause};
 use outcomes::Reading;
 use words::limits::{MAX_DEPTH, MAX_PLACES};
@@ -19,11 +20,12 @@ pub fn decode(
     bits: &[u8],
     lent: &mut Lent,
 ) -> Result<(), Refusal>
-    ensures { DecodedInterleaved
+    ensures decoded { DecodedInterleaved
         (record { n = matrix.now.n; k = matrix.now.k; rows = matrix.now.rows.now; radius = radius; depth = depth; bits = bits.now })
-        (record { codewords = lent.old.codewords.now; counts = lent.old.counts.now; work = lent.old.work.now })
+        (lists_of lent.old)
         result
-        (record { codewords = lent.new.codewords.now; counts = lent.new.counts.now; work = lent.new.work.now }) }
+        (lists_of lent.new) }
+    ensures same_lists { SameLists lent.old lent.new }
 {
     if MAX_PLACES < matrix.n {
         return Err(Refusal::OutOfRange);

@@ -12,7 +12,8 @@ ghost use Rattle.decoder.specs.Decoded.{Decoded};
 ghost use Rattle.telling.specs.Reading.{reading_of};
 ghost use Rattle.telling.specs.Told.{Told, Wrote};
 
-use decoder::{Lent, decode};
+use decoder::batch::Lent;
+use decoder::decode;
 use encoder::{encode, message};
 use judging::Batch;
 use leaders::leaders::Leaders;

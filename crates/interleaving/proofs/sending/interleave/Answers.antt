@@ -2,7 +2,6 @@
 use Rattle.std.proofs.Common.{sym, ◌∙◌, length, arith}
 use Rattle.answers.proofs.AnswerLaws.{handed_on, stays, goes}
 use Rattle.words.specs.Accepted.{matrix_answer}
-use Rattle.words.specs.Lists.{inside_answer}
 use Rattle.words.proofs.AcceptedLaws.{accepted_in}
 use Rattle.interleaving.specs.Causes.{length_answer}
 use Rattle.interleaving.proofs.BitLaws.{length_in}
