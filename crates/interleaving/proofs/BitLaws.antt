@@ -3,39 +3,39 @@ use mathlib.Core.Path.{◌≡◌, refl, sym}
 use mathlib.Core.Logic.{◌≢◌}
 use mathlib.Core.List.{List, [], ◌∷◌}
 use mathlib.Core.Bool.{Bool, true, false}
-use Prim.Native.Nat.{ℕ, zero, suc, ◌+◌, ◌*◌, ◌≤◌, ◌<◌}
+use Prim.Native.Nat.{ℕ, suc, ◌*◌, ◌≤◌, ◌<◌}
 use native.Mathlib.Omega.{arith}
 use lib.Dec.{eqb, leb, ltb}
-use lib.Bits.{bit_and, bit_or, or_lt, or_add_and, and_le_l, and_le_r}
+use lib.Bits.{bit_or, or_lt}
 use lib.ListN.{length}
 use Rattle.std.specs.List.{fold}
 use borrow.Author.Tests.{leb-true, le-leb, lt-leb, eqb-true, eq-eqb, ne_eqb, ltb-true, ltb-false}
 use Rattle.coding.specs.Matrix.{Inside}
 use Rattle.words.specs.Limits.{max_depth}
-use Rattle.answers.specs.Refusal.{unless, Between}
+use Rattle.answers.specs.Refusal.{unless, Between, done}
 use Rattle.words.specs.Shape.{first_outside}
 use Rattle.answers.specs.declared.answer.Refusal.TheVariants.{NoDepth, NoBits}
-use Rattle.answers.specs.declared.answer.Answer.TheVariants.{Done, Refused}
 use Rattle.answers.proofs.AnswerLaws.{unless_done, and_then_done, goes, Numbered, unless-numbered, and_then-numbered}
-use Rattle.words.proofs.ShapeLaws.{outside_none, inside_none}
+use Rattle.words.proofs.ShapeLaws.{outside_none, inside_none, joined_inside}
 use Rattle.interleaving.specs.Causes.{only_bits, length_answer, bits_answer}
+use Rattle.std.specs.Prelude.{Err}
 
 -- ---- cause 16, and the length
 
 module _ (n L m : ℕ) where
-  pub depth_zero : L < 1 → Refused NoDepth ≡ length_answer n L m
+  pub depth_zero : L < 1 → Err NoDepth ≡ length_answer n L m
   unfolding length_answer
   depth_zero h = simp (lt-leb 1 L h)
 
-  pub depth_large : 1 ≤ L → max_depth < L → Refused NoDepth ≡ length_answer n L m
+  pub depth_large : 1 ≤ L → max_depth < L → Err NoDepth ≡ length_answer n L m
   unfolding length_answer
   depth_large h k = simp (le-leb 1 L h, lt-leb L max_depth k)
 
-  pub length-other : 1 ≤ L → L ≤ max_depth → m ≢ L * n → Refused NoBits ≡ length_answer n L m
+  pub length-other : 1 ≤ L → L ≤ max_depth → m ≢ L * n → Err NoBits ≡ length_answer n L m
   unfolding length_answer
   length-other h k e = simp (le-leb 1 L h, le-leb L max_depth k, ne_eqb m (L * n) e)
 
-  pub length_right : 1 ≤ L → L ≤ max_depth → m ≡ L * n → Done ≡ length_answer n L m
+  pub length_right : 1 ≤ L → L ≤ max_depth → m ≡ L * n → done ≡ length_answer n L m
   unfolding length_answer
   length_right h k e = simp (le-leb 1 L h, le-leb L max_depth k, eq-eqb m (L * n) e)
 
@@ -45,7 +45,7 @@ module _ (n L m : ℕ) where
   length-numbered =
       unless-numbered (Between 16 17) (leb 1 L) NoDepth _ (omega arith, omega arith)
       (unless-numbered (Between 16 17) (leb L max_depth) NoDepth _ (omega arith, omega arith)
-      (unless-numbered (Between 16 17) (eqb m (L * n)) NoBits Done (omega arith, omega arith) tt))
+      (unless-numbered (Between 16 17) (eqb m (L * n)) NoBits done (omega arith, omega arith) tt))
 
   -- what is known when they pass
   pub record Fitting : Type 0 where
@@ -53,7 +53,7 @@ module _ (n L m : ℕ) where
     pub small : L ≤ max_depth
     pub long : m ≡ L * n
 
-  pub length_in : length_answer n L m ≡ Done → Fitting
+  pub length_in : length_answer n L m ≡ done → Fitting
   unfolding length_answer
   length_in e =
       let (low, d) = unless_done (leb 1 L) NoDepth _ e in
@@ -61,53 +61,42 @@ module _ (n L m : ℕ) where
       record {
         positive = leb-true 1 L low;
         small = leb-true L max_depth high;
-        long = eqb-true m (L * n) (unless_done (eqb m (L * n)) NoBits Done l).0;
+        long = eqb-true m (L * n) (unless_done (eqb m (L * n)) NoBits done l).0;
       }
 
 -- ---- cause 17 of received bits
 
 module _ (n L : ℕ) (bits : List ℕ) where
-  pub bits_decide : length_answer n L (length bits) ≡ Done → unless (only_bits bits) NoBits Done ≡ bits_answer n L bits
+  pub bits_decide : length_answer n L (length bits) ≡ done → unless (only_bits bits) NoBits done ≡ bits_answer n L bits
   unfolding bits_answer
   bits_decide e = goes (length_answer n L (length bits)) _ e
 
-  pub bits_in : bits_answer n L bits ≡ Done → Fitting n L (length bits) × Inside 1 bits
+  pub bits_in : bits_answer n L bits ≡ done → Fitting n L (length bits) × Inside 1 bits
   unfolding bits_answer
   bits_in e =
       let (a, b) = and_then_done (length_answer n L (length bits)) _ e in
-      (length_in n L (length bits) a, outside_none 1 bits (eqb-true (first_outside 1 bits) (length bits) (unless_done (only_bits bits) NoBits Done b).0))
+      (length_in n L (length bits) a, outside_none 1 bits (eqb-true (first_outside 1 bits) (length bits) (unless_done (only_bits bits) NoBits done b).0))
 
   pub bits_numbered : Numbered (Between 16 17) (bits_answer n L bits)
   unfolding bits_answer
   bits_numbered =
       and_then-numbered (Between 16 17) (length_answer n L (length bits)) _ (length-numbered n L (length bits))
-      (unless-numbered (Between 16 17) (only_bits bits) NoBits Done (omega arith, omega arith) tt)
+      (unless-numbered (Between 16 17) (only_bits bits) NoBits done (omega arith, omega arith) tt)
 
 -- ---- the bytes joined: the joint is below 2 exactly when each byte is
 
 abbrev joint : ℕ → List ℕ → ℕ
-joint a l = fold (λ (x y : ℕ). bit_or x y) a l
+joint a l = fold bit_or a l
 
 joint-up : (l : List ℕ) (a : ℕ) → a < 2 → Inside 1 l → joint a l < 2
 joint-up [] a h f = h
 joint-up (x ∷ l) a h f = joint-up l (bit_or a x) (or_lt 1 a x h (f 0 (omega arith))) (λ j k. f (suc j) (omega (arith, k)))
 
-joint-down : (l : List ℕ) (a : ℕ) → joint a l < 2 → (a < 2) × Inside 1 l
-joint-down [] a h = (h, λ j k. absurd (omega (arith, k)))
-joint-down (x ∷ l) a h =
-    let (first, later) = joint-down l (bit_or a x) h in
-    let e : bit_or a x + bit_and a x ≡ a + x = or_add_and a x in
-    (omega (arith, e, first, and_le_r a x), each (omega (arith, e, first, and_le_l a x)) later)
-  where
-    each : x < 2 → Inside 1 l → Inside 1 (x ∷ l)
-    each h f zero k = h
-    each h f (suc j) k = f j (omega (arith, k))
-
 pub bits_test : (bits : List ℕ) → ltb (joint 0 bits) 2 ≡ only_bits bits
 bits_test bits = go (ltb (joint 0 bits) 2) refl
   where
     go : (t : Bool) → ltb (joint 0 bits) 2 ≡ t → t ≡ only_bits bits
-    go true e = sym (eq-eqb (first_outside 1 bits) (length bits) (inside_none 1 bits (joint-down bits 0 (ltb-true (joint 0 bits) 2 e)).1))
+    go true e = sym (eq-eqb (first_outside 1 bits) (length bits) (inside_none 1 bits (joined_inside 1 0 bits (ltb-true (joint 0 bits) 2 e)).1))
     go false e =
         sym (ne_eqb (first_outside 1 bits) (length bits)
         (λ z. absurd (omega (arith, ltb-false (joint 0 bits) 2 e, joint-up bits 0 (omega arith) (outside_none 1 bits z)))))

@@ -2,13 +2,11 @@
 use Rattle.std.specs.Prelude.{List, Bool, ℕ, ◌*◌, eqb, leb, length}
 use Rattle.coding.specs.Interleaving.{sorted_words}
 use Rattle.words.specs.Limits.{max_depth}
-use Rattle.answers.specs.Refusal.{unless, and_then}
+use Rattle.answers.specs.Refusal.{unless, and_then, Answer, done}
 use Rattle.words.specs.Shape.{first_outside}
 use Rattle.words.specs.Accepted.{matrix_answer}
 use Rattle.words.specs.Lists.{inside_answer, room_answer}
 use Rattle.answers.specs.declared.answer.Refusal.TheVariants.{NoDepth, NoBits}
-use Rattle.answers.specs.declared.answer.Answer.{Answer}
-use Rattle.answers.specs.declared.answer.Answer.TheVariants.{Done}
 use Rattle.outcomes.specs.declared.ending.Reading.TheVariants.{Within}
 use Rattle.decoder.specs.Causes.{lists_answer}
 use Rattle.judging.specs.Causes.{code_answer}
@@ -19,11 +17,11 @@ only_bits bits = eqb (first_outside 1 bits) (length bits)
 
 -- cause 16, a depth L that is not 1 to 16, then 17 for a list of so many bits
 unfoldable pub length_answer : ℕ → ℕ → ℕ → Answer
-length_answer n L m = unless (leb 1 L) NoDepth (unless (leb L max_depth) NoDepth (unless (eqb m (L * n)) NoBits Done))
+length_answer n L m = unless (leb 1 L) NoDepth (unless (leb L max_depth) NoDepth (unless (eqb m (L * n)) NoBits done))
 
 -- when received, 17 as well for a byte above 1
 unfoldable pub bits_answer : ℕ → ℕ → List ℕ → Answer
-bits_answer n L bits = and_then (length_answer n L (length bits)) (unless (only_bits bits) NoBits Done)
+bits_answer n L bits = and_then (length_answer n L (length bits)) (unless (only_bits bits) NoBits done)
 
 -- causes 1 to 4, 16, 17 and 7: sending
 abbrev pub interleave_answer : ℕ → ℕ → List ℕ → List ℕ → ℕ → Answer

@@ -1,12 +1,10 @@
 -- 02, No. 5, the decode within a radius after sorting back: its answer, what every lent list holds at the end, and bursts.
-use Rattle.std.specs.Prelude.{◌≡◌, ◌⊎◌, List, ℕ, length}
+use Rattle.std.specs.Prelude.{◌≡◌, ◌⊎◌, List, ℕ, length, Err}
 use Rattle.coding.specs.Matrix.{Codeword}
 use Rattle.coding.specs.Interleaving.{sorted_words, BurstRule}
-use Rattle.answers.specs.Refusal.{number_of, Between}
+use Rattle.answers.specs.Refusal.{number_of, Between, Answer, done}
 use Rattle.words.specs.Widest.{EveryRow}
 use Rattle.answers.specs.declared.answer.Refusal.{Refusal}
-use Rattle.answers.specs.declared.answer.Answer.{Answer}
-use Rattle.answers.specs.declared.answer.Answer.TheVariants.{Done, Refused}
 use Rattle.outcomes.specs.declared.ending.Reading.TheVariants.{Within}
 use Rattle.decoder.specs.Decoded.{Batch, Lent, Decoded}
 use Rattle.interleaving.specs.Causes.{interleaved_answer}
@@ -33,7 +31,7 @@ InterleavedNumber m = Between 1 5 m ⊎ Between 8 9 m ⊎ Between 16 17 m
 pub record DecodedInterleaved (R : Received) (before : Lent) (r : Answer) (after : Lent) : Type 0 where
   pub answer : r ≡ interleaved_answer R.n R.k R.rows R.radius R.depth R.bits
       (length before.codewords) (length before.counts) (length before.work)
-  pub either : ((c : Refusal) × (r ≡ Refused c) × InterleavedNumber (number_of c) × (after ≡ before)) ⊎ (r ≡ Done)
+  pub either : ((c : Refusal) × (r ≡ Err c) × InterleavedNumber (number_of c) × (after ≡ before)) ⊎ (r ≡ done)
   pub every_row : EveryRow R.n r
-  pub each : r ≡ Done → Decoded (sorted_batch R) before r after
-  pub bursts : r ≡ Done → BurstRule (Codeword R.rows) R.n R.depth R.radius R.bits after.codewords after.counts
+  pub each : r ≡ done → Decoded (sorted_batch R) before r after
+  pub bursts : r ≡ done → BurstRule (Codeword R.rows) R.n R.depth R.radius R.bits after.codewords after.counts

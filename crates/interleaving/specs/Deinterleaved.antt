@@ -2,10 +2,8 @@
 use Rattle.std.specs.Prelude.{◌≡◌, List, ℕ, ◌+◌, ◌*◌, ◌^◌, ◌<◌, length, get_or}
 use Rattle.coding.specs.Word.{bit}
 use Rattle.coding.specs.Interleaving.{interleaved, sorted_words}
-use Rattle.answers.specs.Refusal.{on_done}
+use Rattle.answers.specs.Refusal.{on_done, Answer, done}
 use Rattle.words.specs.Widest.{EveryRow}
-use Rattle.answers.specs.declared.answer.Answer.{Answer}
-use Rattle.answers.specs.declared.answer.Answer.TheVariants.{Done}
 use Rattle.interleaving.specs.Causes.{deinterleave_answer}
 
 -- slot i holds word i of the L words, every later slot and on a refusal every slot is as it was: a word of n places whose place j is bit
@@ -14,6 +12,6 @@ pub record Deinterleaved (n k : ℕ) (rows : List ℕ) (L : ℕ) (bits before : 
   pub answer : r ≡ deinterleave_answer n k rows L bits (length before)
   pub every_row : EveryRow n r
   pub slots : after ≡ on_done r (sorted_words n L bits) before
-  pub inside : r ≡ Done → (i : ℕ) → i < L → get_or after i 0 < 2 ^ n
-  pub travelled : r ≡ Done → (i j : ℕ) → i < L → j < n → bit (get_or after i 0) j ≡ get_or bits (L * j + i) 0
-  pub again : r ≡ Done → interleaved n (sorted_words n L bits) ≡ bits
+  pub inside : r ≡ done → (i : ℕ) → i < L → get_or after i 0 < 2 ^ n
+  pub travelled : r ≡ done → (i j : ℕ) → i < L → j < n → bit (get_or after i 0) j ≡ get_or bits (L * j + i) 0
+  pub again : r ≡ done → interleaved n (sorted_words n L bits) ≡ bits

@@ -2,23 +2,23 @@
 ghost use Rattle.std.specs.Prelude.{◌≡◌};
 ghost use Rattle.interleaving.specs.Causes.{only_bits, length_answer, bits_answer};
 
-use answers::{Answer, Refusal};
+use answers::Refusal;
 use words::limits::MAX_DEPTH;
 
 // Cause 16, and 17 for a list of another length than depth times n.
-pub(crate) fn length_cause(n: u32, depth: usize, length: usize) -> Answer
+pub(crate) fn length_cause(n: u32, depth: usize, length: usize) -> Result<(), Refusal>
     ensures { result ≡ length_answer n depth length }
 {
     if depth < 1 {
-        return Answer::Refused(Refusal::NoDepth);
+        return Err(Refusal::NoDepth);
     }
     if MAX_DEPTH < depth {
-        return Answer::Refused(Refusal::NoDepth);
+        return Err(Refusal::NoDepth);
     }
     if length != depth * n as usize {
-        return Answer::Refused(Refusal::NoBits);
+        return Err(Refusal::NoBits);
     }
-    Answer::Done
+    Ok(())
 }
 
 // Whether no byte is above 1; the bytes are joined, so that no test is made for each.
@@ -29,15 +29,12 @@ fn only_bits(bits: &[u8]) -> bool
 }
 
 // Causes 16 and 17 of received bits.
-pub(crate) fn bits_cause(n: u32, depth: usize, bits: &[u8]) -> Answer
+pub(crate) fn bits_cause(n: u32, depth: usize, bits: &[u8]) -> Result<(), Refusal>
     ensures { result ≡ bits_answer n depth bits.now }
 {
-    let a = length_cause(n, depth, bits.len());
-    let Answer::Done = a else {
-        return a;
-    };
+    length_cause(n, depth, bits.len())?;
     if only_bits(bits) {
-        return Answer::Done;
+        return Ok(());
     }
-    Answer::Refused(Refusal::NoBits)
+    Err(Refusal::NoBits)
 }

@@ -7,9 +7,10 @@ ghost use Rattle.interleaving.specs.Interleaved.{Interleaved};
 ghost use Rattle.interleaving.specs.Inner.Sent.{Sent};
 
 use crate::causes::length_cause;
-use answers::Answer;
+use answers::Refusal;
 use linear::accept;
 use words::lists::inside_cause;
+use words::shape::Matrix;
 
 // Writes the places of word i, lowest first, as the bits i, L + i, 2 L + i and so on.
 fn send_word(n: u32, words: &[u32], i: usize, bits: &mut [u8])
@@ -34,21 +35,12 @@ fn send_words(n: u32, words: &[u32], bits: &mut [u8])
 }
 
 // Writes the words, each of n places, as interleaved bits, one byte a bit.
-pub fn interleave(n: u32, k: u32, rows: &[u32], words: &[u32], bits: &mut [u8]) -> Answer
-    ensures { Interleaved n k rows.now words.now bits.old result bits.new }
+pub fn interleave(matrix: &Matrix, words: &[u32], bits: &mut [u8]) -> Result<(), Refusal>
+    ensures { Interleaved matrix.now.n matrix.now.k matrix.now.rows.now words.now bits.old result bits.new }
 {
-    let a = accept(n, k, rows);
-    let Answer::Done = a else {
-        return a;
-    };
-    let b = length_cause(n, words.len(), bits.len());
-    let Answer::Done = b else {
-        return b;
-    };
-    let c = inside_cause(words, n);
-    let Answer::Done = c else {
-        return c;
-    };
-    send_words(n, words, bits);
-    Answer::Done
+    accept(matrix)?;
+    length_cause(matrix.n, words.len(), bits.len())?;
+    inside_cause(words, matrix.n)?;
+    send_words(matrix.n, words, bits);
+    Ok(())
 }

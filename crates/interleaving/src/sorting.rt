@@ -7,9 +7,10 @@ ghost use Rattle.words.specs.Limits.{width, max_depth};
 ghost use Rattle.interleaving.specs.Deinterleaved.{Deinterleaved};
 
 use crate::causes::bits_cause;
-use answers::Answer;
+use answers::Refusal;
 use linear::accept;
 use words::lists::room_cause;
+use words::shape::Matrix;
 
 // The word with each place one higher, and the bit as its lowest.
 fn with_lowest(w: u32, bit: u8) -> u32
@@ -49,27 +50,16 @@ pub(crate) fn sort_words(bits: &[u8], depth: usize, n: u32, out: &mut [u32])
 
 // Writes the words that the bits say.
 pub fn deinterleave(
-    n: u32,
-    k: u32,
-    rows: &[u32],
+    matrix: &Matrix,
     depth: usize,
     bits: &[u8],
     out: &mut [u32],
-) -> Answer
-    ensures { Deinterleaved n k rows.now depth bits.now out.old result out.new }
+) -> Result<(), Refusal>
+    ensures { Deinterleaved matrix.now.n matrix.now.k matrix.now.rows.now depth bits.now out.old result out.new }
 {
-    let a = accept(n, k, rows);
-    let Answer::Done = a else {
-        return a;
-    };
-    let b = bits_cause(n, depth, bits);
-    let Answer::Done = b else {
-        return b;
-    };
-    let c = room_cause(depth, out.len());
-    let Answer::Done = c else {
-        return c;
-    };
-    sort_words(bits, depth, n, out);
-    Answer::Done
+    accept(matrix)?;
+    bits_cause(matrix.n, depth, bits)?;
+    room_cause(depth, out.len())?;
+    sort_words(bits, depth, matrix.n, out);
+    Ok(())
 }

@@ -6,8 +6,10 @@ ghost use Rattle.interleaving.specs.Deinterleaved.{Deinterleaved};
 ghost use Rattle.interleaving.specs.Decoded.{DecodedInterleaved};
 ghost use Rattle.telling.specs.Told.{Told};
 
+use decoder::batch::Lent;
 use interleaving::{decode, deinterleave, interleave};
 use telling::tell;
+use words::shape::Matrix;
 
 // Writes the words as interleaved bits, one byte a bit.
 #[unsafe(no_mangle)]
@@ -25,8 +27,9 @@ pub extern "C" fn relay_interleave(
         result
         value.new }
 {
-    let a = interleave(n, k, rows, words, bits);
-    tell(a, value)
+    let matrix = Matrix { n, k, rows };
+    let r = interleave(&matrix, words, bits);
+    tell(r, (), value).0
 }
 
 // Writes the words that the bits say.
@@ -46,8 +49,9 @@ pub extern "C" fn relay_deinterleave(
         result
         value.new }
 {
-    let a = deinterleave(n, k, rows, depth, bits, out);
-    tell(a, value)
+    let matrix = Matrix { n, k, rows };
+    let r = deinterleave(&matrix, depth, bits, out);
+    tell(r, (), value).0
 }
 
 // Decodes the words that the bits say, within the radius; the working list becomes the leaders.
@@ -75,6 +79,12 @@ pub extern "C" fn relay_decode_interleaved(
         result
         value.new }
 {
-    let a = decode(n, k, rows, radius, depth, bits, out, counts, work);
-    tell(a, value)
+    let matrix = Matrix { n, k, rows };
+    let mut lent = Lent {
+        codewords: out,
+        counts,
+        work,
+    };
+    let r = decode(&matrix, radius, depth, bits, &mut lent);
+    tell(r, (), value).0
 }

@@ -1,5 +1,7 @@
 // Operations on any generator matrix.
 ghost use Rattle.std.specs.Prelude.{length};
+ghost use Rattle.coding.specs.Lists.{zeros};
+ghost use Rattle.words.specs.Limits.{max_rows, max_checks, weight_slots};
 ghost use Rattle.words.specs.Accepted.{matrix_answer};
 ghost use Rattle.encoder.specs.Encoded.{encode_answer, Encoded};
 ghost use Rattle.encoder.specs.MessagesRead.{message_answer, MessagesRead};
@@ -8,14 +10,20 @@ ghost use Rattle.leaders.specs.Leaders.{leaders_answer, LeadersOf};
 ghost use Rattle.decoder.specs.Causes.{decode_answer};
 ghost use Rattle.decoder.specs.Decoded.{Decoded};
 ghost use Rattle.telling.specs.Reading.{reading_of};
-ghost use Rattle.telling.specs.Told.{Told};
+ghost use Rattle.telling.specs.Told.{Told, Wrote};
 
+use decoder::batch::Lent;
 use decoder::decode;
 use encoder::{encode, message};
+use judging::Batch;
+use leaders::leaders::Leaders;
 use leaders::leaders_of;
 use telling::{reading_of, tell};
 use weights::describe;
+use weights::description::Description;
+use weights::weights::Weights;
 use words::limits::{MAX_CHECKS, MAX_ROWS, WEIGHT_SLOTS};
+use words::shape::Matrix;
 
 // Writes what a matrix's code is: its reduced rows, check rows, weight counts, minimum distance and lightest codeword.
 #[unsafe(no_mangle)]
@@ -31,29 +39,41 @@ pub extern "C" fn relay_describe(
     value: &mut usize,
 ) -> u32
     ensures { Told
-        (λ a. DescriptionOf n k rows.now (record {
-          answer = a;
+        (Wrote (DescriptionOf n k rows.now)
+        (record {
+          rows = zeros max_rows;
+          checks = zeros max_checks;
+          weights = record { dmin = 0; counts = zeros weight_slots; lightest = 0 };
+        })
+        (record {
           rows = reduced.new;
           checks = checks.new;
-          dmin = dmin.new;
-          counts = counts.new;
-          lightest = lightest.new;
+          weights = record { dmin = dmin.new; counts = counts.new; lightest = lightest.new };
         }))
         (matrix_answer n k rows.now)
         result
         value.new }
 {
-    let d = describe(n, k, rows);
+    let matrix = Matrix { n, k, rows };
+    let none = Description {
+        rows: [0u32; MAX_ROWS],
+        checks: [0u32; MAX_CHECKS],
+        weights: Weights {
+            dmin: 0,
+            counts: [0u32; WEIGHT_SLOTS],
+            lightest: 0,
+        },
+    };
+    let (number, d) = tell(describe(&matrix), none, value);
     let first = d.rows;
     let second = d.checks;
-    let third = d.counts;
+    let third = d.weights.counts;
     *reduced = first;
     *checks = second;
     *counts = third;
-    *dmin = d.dmin;
-    *lightest = d.lightest;
-    let a = d.answer;
-    tell(a, value)
+    *dmin = d.weights.dmin;
+    *lightest = d.weights.lightest;
+    number
 }
 
 // Writes the leaders of all syndromes, the check rows that give a word's syndrome, and how many words were tried.
@@ -68,21 +88,23 @@ pub extern "C" fn relay_leaders(
     value: &mut usize,
 ) -> u32
     ensures { Told
-        (λ a. LeadersOf n k rows.now leaders.old (record {
-          answer = a;
-          checks = checks.new;
-          tried = tried.new;
-        }) leaders.new)
+        (Wrote (λ r. LeadersOf n k rows.now leaders.old r leaders.new)
+        (record { checks = zeros max_checks; tried = 0 })
+        (record { checks = checks.new; tried = tried.new }))
         (leaders_answer n k rows.now (length leaders.old))
         result
         value.new }
 {
-    let l = leaders_of(n, k, rows, leaders);
+    let matrix = Matrix { n, k, rows };
+    let none = Leaders {
+        checks: [0u32; MAX_CHECKS],
+        tried: 0,
+    };
+    let (number, l) = tell(leaders_of(&matrix, leaders), none, value);
     let first = l.checks;
     *checks = first;
     *tried = l.tried;
-    let a = l.answer;
-    tell(a, value)
+    number
 }
 
 // Writes the codeword of each message of k places.
@@ -101,8 +123,9 @@ pub extern "C" fn relay_encode(
         result
         value.new }
 {
-    let a = encode(n, k, rows, messages, out);
-    tell(a, value)
+    let matrix = Matrix { n, k, rows };
+    let r = encode(&matrix, messages, out);
+    tell(r, (), value).0
 }
 
 // Writes the message of each codeword.
@@ -121,8 +144,9 @@ pub extern "C" fn relay_message(
         result
         value.new }
 {
-    let a = message(n, k, rows, words, out);
-    tell(a, value)
+    let matrix = Matrix { n, k, rows };
+    let r = message(&matrix, words, out);
+    tell(r, (), value).0
 }
 
 // Decodes each word, as the nearest codeword where `within` is 0, else within the radius; the working list becomes the leaders.
@@ -150,7 +174,16 @@ pub extern "C" fn relay_decode(
         result
         value.new }
 {
-    let reading = reading_of(within, radius);
-    let a = decode(n, k, rows, reading, words, out, counts, work);
-    tell(a, value)
+    let batch = Batch {
+        matrix: Matrix { n, k, rows },
+        reading: reading_of(within, radius),
+        words,
+    };
+    let mut lent = Lent {
+        codewords: out,
+        counts,
+        work,
+    };
+    let r = decode(&batch, &mut lent);
+    tell(r, (), value).0
 }

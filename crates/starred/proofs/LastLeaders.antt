@@ -10,14 +10,14 @@ use Rattle.coding.specs.Order.{order}
 use Rattle.coding.specs.Tries.{LastLeader}
 use Rattle.words.specs.Shape.{shape_answer}
 use Rattle.words.specs.Accepted.{matrix_answer}
-use Rattle.answers.specs.declared.answer.Answer.TheVariants.{Done}
 use Rattle.words.proofs.AcceptedLaws.{accepted_in}
 use Rattle.leaders.specs.Leaders.{leaders_tried}
 use Rattle.leaders.proofs.BuiltLaws.{place_is}
 use Rattle.starred.specs.Matrices.{digits, seven, five, six}
 use Rattle.starred.specs.LastLeaders.{LastLeaders}
+use Rattle.answers.specs.Refusal.{done}
 
-shown : (n k : ℕ) (rows : List ℕ) (last place : ℕ) → matrix_answer n k rows ≡ Done
+shown : (n k : ℕ) (rows : List ℕ) (last place : ℕ) → matrix_answer n k rows ≡ done
     → leaders_tried n k rows ≡ place → get_or (order n (suc (n - k))) (place - 1) 0 ≡ last → LastLeader n rows (n - k) last place
 shown n k rows last place a t e =
     let (l, L) = place_is n k rows (accepted_in n k rows a) in

@@ -1,16 +1,16 @@
 -- 02, No. 5: three words of 01's (7,4) sent interleaved, what is decoded of received bits, and the causes of the three calls, over the
 -- definitions that their contracts cite.
-use Rattle.std.specs.Prelude.{◌≡◌, List, [], ◌∷◌, map, ℕ, get_or, take}
+use Rattle.std.specs.Prelude.{◌≡◌, List, [], ◌∷◌, map, ℕ, get_or, take, Err}
 use Rattle.coding.specs.Lists.{tabulate, zeros}
 use Rattle.coding.specs.Word.{bit}
 use Rattle.coding.specs.Matrix.{Codeword}
 use Rattle.coding.specs.Interleaving.{interleaved, sorted_words, SentWithBurst, BurstRule}
 use Rattle.answers.specs.declared.answer.Refusal.TheVariants.{RadiusTooLarge, WordOutside, ShortOutput, ShortWork, NoDepth, NoBits}
-use Rattle.answers.specs.declared.answer.Answer.TheVariants.{Done, Refused}
 use Rattle.outcomes.specs.Outcome.{word_of, count_of}
 use Rattle.outcomes.specs.declared.ending.Reading.TheVariants.{Within}
 use Rattle.interleaving.specs.Causes.{interleave_answer, deinterleave_answer, interleaved_answer}
 use Rattle.starred.specs.Matrices.{digits, seven}
+use Rattle.answers.specs.Refusal.{done}
 
 -- m bits, bit 0 leftmost
 abbrev pub bit_list : ℕ → ℕ → List ℕ
@@ -42,18 +42,18 @@ pub record Bursts : Type 0 where
   -- bit 9 changed, radius 0: word 0 is far
   pub no_radius : counts 0 0b111001111001101001011 ≡ 255 ∷ 0 ∷ 0 ∷ []
   -- sending: no words; 17 words and 5 bytes; words 0 and 80, and 13 or 14 bytes
-  pub sending : (interleave_answer 7 4 seven [] 0 ≡ Refused NoDepth) × (interleave_answer 7 4 seven (zeros 17) 5 ≡ Refused NoDepth)
-      × (interleave_answer 7 4 seven (0 ∷ 0x80 ∷ []) 13 ≡ Refused NoBits) × (interleave_answer 7 4 seven (0 ∷ 0x80 ∷ []) 14 ≡ Refused (WordOutside 1))
+  pub sending : (interleave_answer 7 4 seven [] 0 ≡ Err NoDepth) × (interleave_answer 7 4 seven (zeros 17) 5 ≡ Err NoDepth)
+      × (interleave_answer 7 4 seven (0 ∷ 0x80 ∷ []) 13 ≡ Err NoBits) × (interleave_answer 7 4 seven (0 ∷ 0x80 ∷ []) 14 ≡ Err (WordOutside 1))
   -- sorting back: 14 bytes, one of them 2, and a list of 1; no byte above 1; no depth
-  pub sorting : (deinterleave_answer 7 4 seven 2 (2 ∷ zeros 13) 1 ≡ Refused NoBits) × (deinterleave_answer 7 4 seven 2 (zeros 14) 1 ≡ Refused ShortOutput)
-      × (deinterleave_answer 7 4 seven 0 (zeros 14) 1 ≡ Refused NoDepth)
+  pub sorting : (deinterleave_answer 7 4 seven 2 (2 ∷ zeros 13) 1 ≡ Err NoBits) × (deinterleave_answer 7 4 seven 2 (zeros 14) 1 ≡ Err ShortOutput)
+      × (deinterleave_answer 7 4 seven 0 (zeros 14) 1 ≡ Err NoDepth)
   -- decoding: radius 2 and depth 17; radius 1, depth 2 and 15 bytes; lists of 2 and 1; a working list of 7; and one of 8
-  pub decoding : (interleaved_answer 7 4 seven 2 17 (zeros 14) 2 2 8 ≡ Refused RadiusTooLarge)
-      × (interleaved_answer 7 4 seven 1 2 (zeros 15) 2 2 8 ≡ Refused NoBits) × (interleaved_answer 7 4 seven 1 2 (zeros 14) 2 1 8 ≡ Refused ShortOutput)
-      × (interleaved_answer 7 4 seven 1 2 (zeros 14) 2 2 7 ≡ Refused ShortWork) × (interleaved_answer 7 4 seven 1 2 (zeros 14) 2 2 8 ≡ Done)
+  pub decoding : (interleaved_answer 7 4 seven 2 17 (zeros 14) 2 2 8 ≡ Err RadiusTooLarge)
+      × (interleaved_answer 7 4 seven 1 2 (zeros 15) 2 2 8 ≡ Err NoBits) × (interleaved_answer 7 4 seven 1 2 (zeros 14) 2 1 8 ≡ Err ShortOutput)
+      × (interleaved_answer 7 4 seven 1 2 (zeros 14) 2 2 7 ≡ Err ShortWork) × (interleaved_answer 7 4 seven 1 2 (zeros 14) 2 2 8 ≡ done)
   -- the deepest: 16 words, 16 times 7 bytes and lists of 16, by the three calls
-  pub deepest : (interleave_answer 7 4 seven (zeros 16) 112 ≡ Done) × (deinterleave_answer 7 4 seven 16 (zeros 112) 16 ≡ Done)
-      × (interleaved_answer 7 4 seven 1 16 (zeros 112) 16 16 8 ≡ Done)
+  pub deepest : (interleave_answer 7 4 seven (zeros 16) 112 ≡ done) × (deinterleave_answer 7 4 seven 16 (zeros 112) 16 ≡ done)
+      × (interleaved_answer 7 4 seven 1 16 (zeros 112) 16 16 8 ≡ done)
   -- one word more, and lists for it
-  pub too_deep : (interleave_answer 7 4 seven (zeros 17) 119 ≡ Refused NoDepth) × (deinterleave_answer 7 4 seven 17 (zeros 119) 17 ≡ Refused NoDepth)
-      × (interleaved_answer 7 4 seven 1 17 (zeros 119) 17 17 8 ≡ Refused NoDepth)
+  pub too_deep : (interleave_answer 7 4 seven (zeros 17) 119 ≡ Err NoDepth) × (deinterleave_answer 7 4 seven 17 (zeros 119) 17 ≡ Err NoDepth)
+      × (interleaved_answer 7 4 seven 1 17 (zeros 119) 17 17 8 ≡ Err NoDepth)

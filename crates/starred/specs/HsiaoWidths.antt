@@ -1,10 +1,9 @@
 -- 02, No. 3: the codes of 16 and 32 data bits, over the definitions that the contracts cite; checks and data in hexadecimal.
-use Rattle.std.specs.Prelude.{◌≡◌, cond, List, [], ◌∷◌, map, ℕ, suc, eqb, length, replicate}
+use Rattle.std.specs.Prelude.{◌≡◌, cond, List, [], ◌∷◌, map, ℕ, suc, eqb, length, replicate, Err}
 use Rattle.coding.specs.Lists.{tabulate}
 use Rattle.coding.specs.Matrix.{encode}
-use Rattle.answers.specs.Refusal.{number_of, value_of}
+use Rattle.answers.specs.Refusal.{number_of, value_of, done}
 use Rattle.answers.specs.declared.answer.Refusal.TheVariants.{NoCodeword, NoWidth, BeyondWidth}
-use Rattle.answers.specs.declared.answer.Answer.TheVariants.{Done, Refused}
 use Rattle.hsiao.specs.Table.{columns}
 use Rattle.outcomes.specs.Outcome.{count_in}
 use Rattle.hsiao.specs.Widths.Code.{checks_of, columns_of}
@@ -37,11 +36,11 @@ pub record HsiaoWidths : Type 0 where
   pub encoded_32 : map (encode (columns_of 32)) (0xFFFFFFFF ∷ 0x80000000 ∷ 0xDEADBEEF ∷ []) ≡ 0x03 ∷ 0x62 ∷ 0x05 ∷ []
   -- 10000 at width 16 and 100000000 at width 32: number 15, and 0 beside it
   pub data-beyond :
-      (data_answer 16 0x10000 ≡ Refused BeyondWidth) × (data_answer 32 0x100000000 ≡ Refused BeyondWidth)
+      (data_answer 16 0x10000 ≡ Err BeyondWidth) × (data_answer 32 0x100000000 ≡ Err BeyondWidth)
       × (number_of BeyondWidth ≡ 15) × (value_of BeyondWidth ≡ 0)
   -- widths 0, 8, 17, 24, 33: number 14, and 0 beside it, whatever the data
   pub no_width :
-      (map (λ width. data_answer width 0xFFFFFFFFFFFFFFFF) (0 ∷ 8 ∷ 17 ∷ 24 ∷ 33 ∷ []) ≡ replicate 5 (Refused NoWidth))
+      (map (λ width. data_answer width 0xFFFFFFFFFFFFFFFF) (0 ∷ 8 ∷ 17 ∷ 24 ∷ 33 ∷ []) ≡ replicate 5 (Err NoWidth))
       × (number_of NoWidth ≡ 14) × (value_of NoWidth ≡ 0)
   -- data 0 with each check: at width 16 one is clean, 22 are mended, 41 far; at width 32 1, 39 and 88
   pub each-check :
@@ -53,8 +52,8 @@ pub record HsiaoWidths : Type 0 where
       (width_outcome 16 (word 0x31 0) ≡ Far) × (width_outcome 32 (word 0x64 0) ≡ Far) × (width_outcome 16 (word 0x1F 0) ≡ Far)
       × (width_outcome 16 (word 0x3F 0) ≡ Far) × (width_outcome 32 (word 0x1F 0) ≡ Far) × (width_outcome 32 (word 0x3F 0) ≡ Far)
   -- 40 at width 16 and 80 at width 32: number 15
-  pub check_beyond : (word_answer 16 (word 0x40 0) Done ≡ Refused BeyondWidth) × (word_answer 32 (word 0x80 0) Done ≡ Refused BeyondWidth)
+  pub check_beyond : (word_answer 16 (word 0x40 0) done ≡ Err BeyondWidth) × (word_answer 32 (word 0x80 0) done ≡ Err BeyondWidth)
   -- read back at width 16: check 47, data 1 is 15; check 06 is 10; check 07 is read
   pub read :
-      (message_answer 16 (word 0x47 1) ≡ Refused BeyondWidth) × (message_answer 16 (word 0x06 1) ≡ Refused (NoCodeword 0))
-      × (message_answer 16 (word 0x07 1) ≡ Done)
+      (message_answer 16 (word 0x47 1) ≡ Err BeyondWidth) × (message_answer 16 (word 0x06 1) ≡ Err (NoCodeword 0))
+      × (message_answer 16 (word 0x07 1) ≡ done)

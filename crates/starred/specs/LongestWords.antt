@@ -1,12 +1,12 @@
 -- 02, No. 7: which n and k pass cause 1, and numbers of 32 bits as rows, words and messages, over the definitions that the contracts cite.
-use Rattle.std.specs.Prelude.{◌≡◌, true, false, List, [], ◌∷◌, ◌++◌, map, ℕ, ◌+◌, ◌*◌, ◌^◌, replicate}
+use Rattle.std.specs.Prelude.{◌≡◌, true, false, List, [], ◌∷◌, ◌++◌, map, ℕ, ◌+◌, ◌*◌, ◌^◌, replicate, Err}
 use Rattle.coding.specs.Lists.{tabulate}
 use Rattle.coding.specs.Matrix.{encode}
 use Rattle.words.specs.Limits.{in_range}
 use Rattle.words.specs.Shape.{shape_answer}
 use Rattle.words.specs.Lists.{list_answer}
 use Rattle.answers.specs.declared.answer.Refusal.TheVariants.{RowCount, RowOutside, WordOutside}
-use Rattle.answers.specs.declared.answer.Answer.TheVariants.{Done, Refused}
+use Rattle.answers.specs.Refusal.{done}
 
 -- 1 + x^3 + x^5 + x^6 + x^8 + x^9 + x^10 times x^i, for each i below k: rows of the (31,21) BCH code
 abbrev pub rows_of : ℕ → List ℕ
@@ -24,8 +24,8 @@ pub record LongestWords : Type 0 where
   pub no_checks : map (λ k. in_range k k) (16 ∷ 20 ∷ 21 ∷ []) ≡ replicate 3 false
   pub more_checks : map (λ k. in_range (k + 13) k) (1 ∷ 16 ∷ 19 ∷ []) ≡ replicate 3 false
   -- a row of 32 ones is one of 32 places, and 2^31 none of 31; 21 rows are not 20
-  pub rows : (shape_answer 32 20 longest ≡ Done) × (shape_answer 31 19 (rows_of 18 ++ 0x80000000 ∷ []) ≡ Refused (RowOutside 18))
-      × (shape_answer 32 20 (longest ++ 1 ∷ []) ≡ Refused RowCount)
+  pub rows : (shape_answer 32 20 longest ≡ done) × (shape_answer 31 19 (rows_of 18 ++ 0x80000000 ∷ []) ≡ Err (RowOutside 18))
+      × (shape_answer 32 20 (longest ++ 1 ∷ []) ≡ Err RowCount)
   -- message 2^19 has the codeword of 32 ones, which is a word; message 2^20 is none of 20 places
-  pub words : (encode longest 0x80000 ≡ 0xFFFFFFFF) × (list_answer (0 ∷ 0xFFFFFFFF ∷ []) 32 2 ≡ Done)
-      × (list_answer (0xFFFFF ∷ 0x100000 ∷ []) 20 2 ≡ Refused (WordOutside 1))
+  pub words : (encode longest 0x80000 ≡ 0xFFFFFFFF) × (list_answer (0 ∷ 0xFFFFFFFF ∷ []) 32 2 ≡ done)
+      × (list_answer (0xFFFFF ∷ 0x100000 ∷ []) 20 2 ≡ Err (WordOutside 1))

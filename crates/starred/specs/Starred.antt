@@ -1,14 +1,13 @@
 -- 01, "Worked words": the starred cases as one table, a field for each, in 01's order and digits, over the definitions that the
 -- contracts cite.
-use Rattle.std.specs.Prelude.{◌≡◌, [], ◌∷◌, map}
+use Rattle.std.specs.Prelude.{◌≡◌, [], ◌∷◌, map, Err}
 use Rattle.coding.specs.Lists.{tabulate}
 use Rattle.coding.specs.Matrix.{encode, message_of}
 use Rattle.coding.specs.Reduce.{reduced_rows}
 use Rattle.coding.specs.Weight.{dmin, weight_counts}
 use Rattle.coding.specs.Leader.{leader_of}
-use Rattle.answers.specs.Refusal.{number_of, value_of}
+use Rattle.answers.specs.Refusal.{number_of, value_of, done}
 use Rattle.answers.specs.declared.answer.Refusal.TheVariants.{Dependent}
-use Rattle.answers.specs.declared.answer.Answer.TheVariants.{Done, Refused}
 use Rattle.words.specs.Accepted.{matrix_answer}
 use Rattle.outcomes.specs.declared.ending.Reading.TheVariants.{Nearest}
 use Rattle.outcomes.specs.declared.ending.Outcome.TheVariants.{Mended, Far}
@@ -21,7 +20,7 @@ use Rattle.starred.specs.Matrices.{digits, of_weight, seven, five, four}
 
 pub record Starred : Type 0 where
   -- (7,4) with rows 1101000, 0110100, 1110010, 1010001: message 1101 gives 0001101
-  pub seven_encoded : (matrix_answer 7 4 seven ≡ Done) × (encode seven (digits 4 0b1101) ≡ digits 7 0b0001101)
+  pub seven_encoded : (matrix_answer 7 4 seven ≡ done) × (encode seven (digits 4 0b1101) ≡ digits 7 0b0001101)
   -- its reduced rows: 1000110, 0100011, 0010111, 0001101; dmin 3
   pub seven-reduced :
       (reduced_rows 7 seven ≡ map (digits 7) (0b1000110 ∷ 0b0100011 ∷ 0b0010111 ∷ 0b0001101 ∷ [])) × (dmin seven ≡ 3)
@@ -34,9 +33,9 @@ pub record Starred : Type 0 where
       × (decoded_as 7 seven Nearest (digits 7 0b1000100) ≡ Mended (digits 7 0b1000110) 1)
   -- rows 10111, 01101: two leaders of weight 2, 00110 and 10100
   pub five_leaders :
-      (matrix_answer 5 2 five ≡ Done) × (of_weight 2 (tabulate (leader_of 5 five) 8) ≡ digits 5 0b00110 ∷ digits 5 0b10100 ∷ [])
+      (matrix_answer 5 2 five ≡ done) × (of_weight 2 (tabulate (leader_of 5 five) 8) ≡ digits 5 0b00110 ∷ digits 5 0b10100 ∷ [])
   -- n = 4, rows 1100, 1010, 0110: number 4, row 2
-  pub four_dependent : (matrix_answer 4 3 four ≡ Refused (Dependent 2)) × (number_of (Dependent 2) ≡ 4) × (value_of (Dependent 2) ≡ 2)
+  pub four_dependent : (matrix_answer 4 3 four ≡ Err (Dependent 2)) × (number_of (Dependent 2) ≡ 4) × (value_of (Dependent 2) ≡ 2)
   -- Golay message 110000000000 gives checks 100100110110
   pub golay_encoded : encode golay_rows (digits 12 0b110000000000) ≡ digits 24 0b100100110110_110000000000
   -- 100000110100 110000000001 mends 3 places to that codeword. Not computed, since the definition searches 2^24 words: it is a codeword
