@@ -13,7 +13,7 @@ use Rattle.words.proofs.CodeLaws.{rows_are, distance_is}
 use Rattle.coding.proofs.EchelonLaws.{reduced_rows_form}
 use Rattle.answers.specs.Refusal.{answered, part}
 use Rattle.answers.specs.declared.answer.Refusal.{Refusal}
-use Rattle.answers.proofs.AnswerLaws.{handed_on, err_answered, answered_err, ok_answered, answered_ok, done_answered, part-answered}
+use Rattle.answers.proofs.AnswerLaws.{ok_answered, answered_ok, done_answered, part-answered}
 use Rattle.parity.specs.ParityChecks.{CodeOf}
 use Rattle.parity.specs.declared.check.Code.{Code}
 use Rattle.distance.specs.Distance.{DistanceOf}
@@ -46,11 +46,6 @@ promised {n} {k} {rows} {q} C r e =
       checks = rw same at C.checks;
       distance = λ d. distance_is n k rows (accepted_in n k rows (done_answered a _ r e d));
     }
-
-pub returns-in_err-c : goal.returns-in_err-c
-returns-in_err-c c =
-    let e = answered_err _ _ _ (sym c.in_err-c.was ∙ c.code_of.ensures.is) in
-    promised c.code_of.ensures _ (handed_on _ _ c.from_residual.ensures ∙ err_answered _ _ _ e)
 
 pub least_weight-requires : goal.least_weight-requires
 least_weight-requires c =

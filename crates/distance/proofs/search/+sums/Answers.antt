@@ -1,9 +1,8 @@
 -- With row p there come the sums of t - 1 rows before it, each with row p added.
-use Rattle.std.proofs.Common.{◌≡◌, ℕ, length, min, subst, rules, arith}
+use Rattle.std.proofs.Common.{◌≡◌, min, rules, arith}
 use Rattle.std.proofs.iter.runs.Made.{chains}
 use Rattle.std.specs.List.{fold}
 use Rattle.coding.specs.Word.{◌⊕◌}
-use Rattle.distance.specs.Inner.LeastSum.{LeastSum}
 use Rattle.distance.proofs.LeastSumLaws.{least_rows, least_start, least_next, least_first}
 use Rattle.distance.proofs.search.+sums.Goals as goal
 
@@ -22,9 +21,3 @@ least_by_last-loop-p-preserved g t c = λ f keeps.
     least_next f a.rows.now c.loop-p.p a.t a.base a.best c.loop-p.least c.least_sum-least.result (omega (arith, c.requires.number))
     (c.loop-p.invariant f keeps)
     (least_first f a.rows.now c.loop-p.p _ _ _ _ (omega (arith, c.loop-p-test.true)) (c.least_sum-least.ensures f keeps))
-
-pub least_by_last-returns : goal.least_by_last-returns
-least_by_last-returns g t c = λ f keeps.
-    let a = c.args in
-    let all : c.loop-p.p ≡ length a.rows.now = omega (arith, c.requires.number, c.loop-p.auto.p-end, c.loop-p-test.false) in
-    subst (λ (p : ℕ). LeastSum f a.rows.now p a.t a.base a.best c.loop-p.least) all (c.loop-p.invariant f keeps)

@@ -15,11 +15,6 @@ loop-t-preserved c =
       found_next _ _ _ _ _ _ (omega (arith, c.loop-t.auto.t)) c.loop-t.invariant.2 L,
     )
 
-pub returns : goal.returns
-returns c =
-    let (near, small, found) = c.loop-t.invariant in
-    smallest_end _ c.args.w c.loop-t.t _ (omega (arith, near, c.min-t-end.ensures)) small found (omega (arith, c.loop-t-test.false, c.min-t-end.ensures))
-
 pub returns-2 : goal.returns-2
 returns-2 c =
     let L = c.least_sum-best.ensures (of_weight c.args.w) (λ b x y p. search rules) in

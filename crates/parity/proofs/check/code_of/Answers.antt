@@ -7,18 +7,11 @@ use Rattle.coding.specs.Check.{checks}
 use Rattle.words.specs.Limits.{max_rows, max_checks}
 use Rattle.words.specs.Accepted.{matrix_answer}
 use Rattle.words.proofs.AcceptedLaws.{accepted_in}
-use Rattle.answers.proofs.AnswerLaws.{handed_on, err_answered, answered_err, ok_answered, answered_ok}
+use Rattle.answers.proofs.AnswerLaws.{ok_answered, answered_ok}
 use Rattle.linear.specs.Reduction.{messages_by_pivot}
 use Rattle.linear.specs.declared.reduction.Reduction.{Reduction}
 use Rattle.parity.proofs.ParityLaws.{checks_few, checks_are, code_lem}
 use Rattle.parity.proofs.check.code_of.Goals as goal
-
-pub returns-in_err-r : goal.returns-in_err-r
-returns-in_err-r c =
-    let m = c.args.matrix.now in
-    let a = matrix_answer m.n m.k m.rows.now in
-    let e = answered_err a _ _ (sym c.in_err-r.was ∙ c.reduce.ensures.is) in
-    code_lem c.reduce.ensures _ (handed_on _ _ c.from_residual.ensures ∙ err_answered a _ _ e)
 
 pub check_rows-requires : goal.check_rows-requires
 check_rows-requires c =

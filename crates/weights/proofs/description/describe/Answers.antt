@@ -9,7 +9,7 @@ use Rattle.words.specs.Limits.{max_rows, max_checks}
 use Rattle.words.specs.Accepted.{matrix_answer, Accepted}
 use Rattle.words.proofs.AcceptedLaws.{accepted_in}
 use Rattle.words.proofs.CodeLaws.{rows_are}
-use Rattle.answers.proofs.AnswerLaws.{handed_on, err_answered, answered_err, ok_answered, answered_ok}
+use Rattle.answers.proofs.AnswerLaws.{ok_answered, answered_ok}
 use Rattle.parity.specs.declared.check.Code.{Code}
 use Rattle.walk.proofs.WalkedLaws.{counts_are, least_is, lightest_is}
 use Rattle.weights.specs.declared.weights.Weights.{Weights}
@@ -33,11 +33,6 @@ parts n k rows first second A f s =
 same_weights : {a b : ℕ} {c d : List ℕ} {e f : ℕ} → a ≡ b → c ≡ d → e ≡ f
     → ◌≡◌ {A = Weights} (record { dmin = a; counts = c; lightest = e }) (record { dmin = b; counts = d; lightest = f })
 same_weights p q r = λ i. record { dmin = p i; counts = q i; lightest = r i }
-
-pub returns-in_err-c : goal.returns-in_err-c
-returns-in_err-c c =
-    let e = answered_err _ _ _ (sym c.in_err-c.was ∙ c.code_of.ensures.is) in
-    description_lem c.code_of.ensures _ (handed_on _ _ c.from_residual.ensures ∙ err_answered _ _ _ e)
 
 pub walk_code-least-requires : goal.walk_code-least-requires
 walk_code-least-requires c =
