@@ -1,21 +1,21 @@
-// The extended Golay code (24,12), one word at a time.
+// The extended Golay code (24,12), one word at a time. On a refusal 0 is written.
 ghost use Rattle.golay.specs.Encoded.{encode_answer, Encoded};
 ghost use Rattle.golay.specs.Decoded.{decode_answer, Decoded};
 ghost use Rattle.golay.specs.MessageRead.{message_answer, MessageRead};
-ghost use Rattle.telling.specs.Told.{Told};
+ghost use Rattle.telling.specs.Told.{Told, Wrote};
 
 use golay::{decode, encode};
+use outcomes::Correction;
 use telling::tell;
 
 // Writes the codeword of a message of 12 places.
 #[unsafe(no_mangle)]
 pub extern "C" fn relay_golay_encode(message: u32, word: &mut u32, value: &mut usize) -> u32
-    ensures { Told (λ a. Encoded message (record { answer = a; word = word.new })) (encode_answer message) result value.new }
+    ensures { Told (Wrote (Encoded message) 0 word.new) (encode_answer message) result value.new }
 {
-    let c = encode(message);
-    *word = c.word;
-    let a = c.answer;
-    tell(a, value)
+    let (number, codeword) = tell(encode(message), 0, value);
+    *word = codeword;
+    number
 }
 
 // Writes the codeword within three places of a word of 24, and its distance; a far word is answered unchanged with count 255.
@@ -27,25 +27,24 @@ pub extern "C" fn relay_golay_decode(
     value: &mut usize,
 ) -> u32
     ensures { Told
-        (λ a. Decoded received (record { answer = a; word = word.new; count = count.new }))
+        (Wrote (Decoded received) (record { word = 0; count = 0 }) (record { word = word.new; count = count.new }))
         (decode_answer received)
         result
         value.new }
 {
-    let d = decode(received);
-    *word = d.word;
-    *count = d.count;
-    let a = d.answer;
-    tell(a, value)
+    let none = Correction { word: 0, count: 0 };
+    let (number, c) = tell(decode(received), none, value);
+    *word = c.word;
+    *count = c.count;
+    number
 }
 
 // Writes the message of a codeword.
 #[unsafe(no_mangle)]
 pub extern "C" fn relay_golay_message(codeword: u32, message: &mut u32, value: &mut usize) -> u32
-    ensures { Told (λ a. MessageRead codeword (record { answer = a; message = message.new })) (message_answer codeword) result value.new }
+    ensures { Told (Wrote (MessageRead codeword) 0 message.new) (message_answer codeword) result value.new }
 {
-    let b = golay::message(codeword);
-    *message = b.message;
-    let a = b.answer;
-    tell(a, value)
+    let (number, read) = tell(golay::message(codeword), 0, value);
+    *message = read;
+    number
 }

@@ -1,8 +1,8 @@
-// The (72,64) code, one word at a time, given as its check byte and its data.
+// The (72,64) code, one word at a time, given as its check byte and its data. On a refusal 0 is written.
 ghost use Rattle.hsiao.specs.Encoded.{Encoded};
 ghost use Rattle.hsiao.specs.Decoded.{Decoded};
 ghost use Rattle.hsiao.specs.MessageRead.{message_answer, MessageRead};
-ghost use Rattle.telling.specs.Told.{Told};
+ghost use Rattle.telling.specs.Told.{Told, Wrote};
 
 use hsiao::{Word, decode, encode, message};
 use telling::tell;
@@ -26,25 +26,23 @@ pub extern "C" fn relay_hsiao_decode(check: &mut u8, bits: &mut u64) -> u8
         check: *check,
         data: *bits,
     };
-    let d = decode(w);
-    let c = d.word;
-    *check = c.check;
-    *bits = c.data;
-    d.count
+    let c = decode(w);
+    *check = c.word.check;
+    *bits = c.word.data;
+    c.count
 }
 
 // Writes the data of a codeword.
 #[unsafe(no_mangle)]
 pub extern "C" fn relay_hsiao_message(check: u8, bits: u64, out: &mut u64, value: &mut usize) -> u32
     ensures { Told
-        (λ a. MessageRead (record { check = check; «data» = bits }) (record { answer = a; «data» = out.new }))
+        (Wrote (MessageRead (record { check = check; «data» = bits })) 0 out.new)
         (message_answer (record { check = check; «data» = bits }))
         result
         value.new }
 {
     let w = Word { check, data: bits };
-    let b = message(w);
-    *out = b.data;
-    let a = b.answer;
-    tell(a, value)
+    let (number, data) = tell(message(w), 0, value);
+    *out = data;
+    number
 }
