@@ -2,7 +2,7 @@
 -- over the block.
 use mathlib.Core.Path.{◌≡◌, refl, sym, ap, ap₂, ◌∙◌}
 use mathlib.Core.Logic.{◌≢◌, ◌⊎◌, inl, inr, ⊎_elim}
-use mathlib.Core.List.{List, [], ◌∷◌, map}
+use mathlib.Core.List.{List, map}
 use mathlib.Core.Bool.{Bool, true, false, not, cond}
 use Prim.Native.Nat.{ℕ, zero, suc, ◌+◌, ◌-◌, ◌≤◌, ◌<◌, ◌^◌, min}
 use native.Mathlib.Nat.{le_refl, le_trans}
@@ -12,6 +12,7 @@ use lib.Dec.{eqb, ltb}
 use lib.ListN.{length, get_or, length-map}
 use lib.Bits.{xor_lt}
 use lib.Count.{ones-le}
+use borrow.Author.Count.{below_more}
 use borrow.Author.Tests.{eq-eqb, ne_eqb, eqb-true, eqb-false, not-true, not-false, lt-ltb, le-ltb, ltb-true, ltb-false}
 use Rattle.coding.specs.Lists.{first}
 use Rattle.coding.specs.Word.{◌⊕◌, weight, distance}
@@ -25,8 +26,7 @@ use Rattle.walk.specs.Inner.Block.{Tallied, Kept, BlockWalked}
 use Rattle.walk.specs.declared.walk.Walk.{Walk}
 use Rattle.walk.specs.declared.walk.Lightest.{Lightest}
 use Rattle.std.specs.Prelude.{Option, Some, None, IfSome, MatchOption}
-use Rattle.std.specs.Option.{option_map, unwrap_or, IsSomeAnd}
-use Rattle.std.specs.List.{fold, reduce, filter, zip}
+use Rattle.std.specs.Option.{option_map, unwrap_or}
 
 -- weight i + 1 has been counted
 abbrev pub counted : List ℕ → ℕ → Bool
@@ -80,93 +80,33 @@ no_least counts e = go (ltb (least_of counts) 33) refl e
     go true l z = absurd cc
     go false l z = ltb-false (least_of counts) 33 l
 
--- ---- the smallest of a block's words of one weight
+-- ---- the smallest of a block's words of one weight, one word after the other
 
-module _ (base w : ℕ) where
-  -- those of the weight, each with base added
-  abbrev pub found_in : List ℕ → List ℕ → List ℕ
-  found_in block ws = map (λ (p : ℕ × ℕ). p.0 ⊕ base) (filter (λ (p : ℕ × ℕ). eqb p.1 w) (zip block ws))
+module _ {block : List ℕ} {base : ℕ} {ws : List ℕ} {w m r : ℕ} (S : SmallestOf block base ws w m r) where
+  -- one word more is looked at; x is no larger than the one found, nor than this one where it has the weight
+  each_to : (x : ℕ) → x ≤ r → (get_or ws m 0 ≡ w → x ≤ get_or block m 0 ⊕ base)
+      → (i : ℕ) → i < m + 1 → get_or ws i 0 ≡ w → x ≤ get_or block i 0 ⊕ base
+  each_to x h f = below_more (λ i. get_or ws i 0 ≡ w → x ≤ get_or block i 0 ⊕ base) m (λ i l q. le_trans h (S.each i l q)) f
 
-  abbrev among : (block ws : List ℕ) → ℕ → Type 0
-  among block ws x = (i : ℕ) × (i < min (length block) (length ws)) × (get_or ws i 0 ≡ w) × (x ≡ get_or block i 0 ⊕ base)
+  pub smallest_keep : (get_or ws m 0 ≡ w → r ≤ get_or block m 0 ⊕ base) → SmallestOf block base ws w (m + 1) r
+  smallest_keep f = record {
+    each = each_to r (le_refl r) f;
+    one = ⊎_elim inl (λ (i, h, q, e). inr (i, omega arith, q, e)) S.one;
+  }
 
-  later : (b v : ℕ) (block ws : List ℕ) {x : ℕ} → among block ws x → among (b ∷ block) (v ∷ ws) x
-  later b v block ws (i, h, q, e) = (suc i, omega arith, q, e)
+  pub smallest_take : get_or ws m 0 ≡ w → get_or block m 0 ⊕ base < r → SmallestOf block base ws w (m + 1) (get_or block m 0 ⊕ base)
+  smallest_take q h = record {
+    each = each_to (get_or block m 0 ⊕ base) (omega arith) (λ _. le_refl (get_or block m 0 ⊕ base));
+    one = inr (m, omega arith, q, refl);
+  }
 
-  -- y is the smallest of a and of these
-  record Below (block ws : List ℕ) (a y : ℕ) : Type 0 where
-    upper : y ≤ a
-    each : (i : ℕ) → i < min (length block) (length ws) → get_or ws i 0 ≡ w → y ≤ get_or block i 0 ⊕ base
-    one : (y ≡ a) ⊎ among block ws y
-
-  below : (block ws : List ℕ) (a : ℕ) → Below block ws a (fold min a (found_in block ws))
-  below [] ws a = record { upper = le_refl a; each = λ i h. absurd (omega arith); one = inl refl }
-  below (b ∷ block) [] a = record { upper = le_refl a; each = λ i h. absurd (omega arith); one = inl refl }
-  below (b ∷ block) (v ∷ ws) a = go (eqb v w) refl (below block ws)
+  -- of the word met and the smallest before it the smaller is held
+  pub smallest_met : {y : ℕ} → get_or ws m 0 ≡ w → y ≡ min r (get_or block m 0 ⊕ base) → SmallestOf block base ws w (m + 1) y
+  smallest_met {y} q e = go (dec_le r (get_or block m 0 ⊕ base))
     where
-      go : (t : Bool) → eqb v w ≡ t → ((k : ℕ) → Below block ws k (fold min k (found_in block ws)))
-          → Below (b ∷ block) (v ∷ ws) a (fold min a (map (λ (p : ℕ × ℕ). p.0 ⊕ base) (cond t ((b, v) ∷ filter (λ (p : ℕ × ℕ). eqb p.1 w) (zip block ws)) (filter (λ (p : ℕ × ℕ). eqb p.1 w) (zip block ws)))))
-      go true e f =
-          let F = f (min a (b ⊕ base)) in
-          record {
-            upper = omega (arith, F.upper);
-            each = each F;
-            one = ⊎_elim (λ s. first s (dec_le a (b ⊕ base))) (λ s. inr (later b v block ws s)) F.one;
-          }
-        where
-          y : ℕ
-          y = fold min (min a (b ⊕ base)) (found_in block ws)
-
-          each : Below block ws (min a (b ⊕ base)) y → (i : ℕ) → i < min (suc (length block)) (suc (length ws)) → get_or (v ∷ ws) i 0 ≡ w → y ≤ get_or (b ∷ block) i 0 ⊕ base
-          each F zero h q = omega (arith, F.upper)
-          each F (suc i) h q = F.each i (omega arith) q
-
-          first : y ≡ min a (b ⊕ base) → Dec (a ≤ b ⊕ base) → (y ≡ a) ⊎ among (b ∷ block) (v ∷ ws) y
-          first s (yes l) = inl (omega arith)
-          first s (no l) = inr (zero, omega arith, eqb-true v w e, omega arith)
-      go false e f =
-          let F = f a in
-          record { upper = F.upper; each = each F; one = ⊎_elim inl (λ s. inr (later b v block ws s)) F.one }
-        where
-          y : ℕ
-          y = fold min a (found_in block ws)
-
-          each : Below block ws a y → (i : ℕ) → i < min (suc (length block)) (suc (length ws)) → get_or (v ∷ ws) i 0 ≡ w → y ≤ get_or (b ∷ block) i 0 ⊕ base
-          each F zero h q = absurd (eqb-false v w e q)
-          each F (suc i) h q = F.each i (omega arith) q
-
-  pub smallest_found : (block ws : List ℕ) → SmallestOf block base ws w (min (length block) (length ws)) (reduce min (found_in block ws))
-  smallest_found [] ws = record { each = λ i h. absurd (omega arith); one = tt }
-  smallest_found (b ∷ block) [] = record { each = λ i h. absurd (omega arith); one = tt }
-  smallest_found (b ∷ block) (v ∷ ws) = go (eqb v w) refl (smallest_found block ws)
-    where
-      go : (t : Bool) → eqb v w ≡ t → SmallestOf block base ws w (min (length block) (length ws)) (reduce min (found_in block ws))
-          → SmallestOf (b ∷ block) base (v ∷ ws) w (min (suc (length block)) (suc (length ws)))
-          (reduce min (map (λ (p : ℕ × ℕ). p.0 ⊕ base) (cond t ((b, v) ∷ filter (λ (p : ℕ × ℕ). eqb p.1 w) (zip block ws)) (filter (λ (p : ℕ × ℕ). eqb p.1 w) (zip block ws)))))
-      go true e S =
-          let F = below block ws (b ⊕ base) in
-          record {
-            each = each F;
-            one = ⊎_elim (λ s. (zero, omega arith, eqb-true v w e, s)) (λ s. later b v block ws s) F.one;
-          }
-        where
-          y : ℕ
-          y = fold min (b ⊕ base) (found_in block ws)
-
-          each : Below block ws (b ⊕ base) y → (i : ℕ) → i < min (suc (length block)) (suc (length ws)) → get_or (v ∷ ws) i 0 ≡ w → y ≤ get_or (b ∷ block) i 0 ⊕ base
-          each F zero h q = F.upper
-          each F (suc i) h q = F.each i (omega arith) q
-      go false e S = record { each = each S; one = one (reduce min (found_in block ws)) S.one }
-        where
-          each : SmallestOf block base ws w (min (length block) (length ws)) (reduce min (found_in block ws)) → (i : ℕ)
-              → i < min (suc (length block)) (suc (length ws)) → get_or (v ∷ ws) i 0 ≡ w
-              → IsSomeAnd (reduce min (found_in block ws)) (λ x. x ≤ get_or (b ∷ block) i 0 ⊕ base)
-          each S zero h q = absurd (eqb-false v w e q)
-          each S (suc i) h q = S.each i (omega arith) q
-
-          one : (o : Option ℕ) → IfSome o (among block ws) → IfSome o (among (b ∷ block) (v ∷ ws))
-          one None s = tt
-          one (Some x) s = later b v block ws s
+      go : Dec (r ≤ get_or block m 0 ⊕ base) → SmallestOf block base ws w (m + 1) y
+      go (yes h) = let is : y ≡ r = omega arith in rw is (smallest_keep (λ _. h))
+      go (no h) = let is : y ≡ get_or block m 0 ⊕ base = omega arith in rw is (smallest_take q (omega arith))
 
 -- ---- a block has been tallied
 
@@ -334,15 +274,23 @@ module _ {block : List ℕ} {base : ℕ} {w : Walk} {ws after : List ℕ} (W : W
           rw (none_held rows m w M (omega (arith, falls)))
           (record { size = W.tallied.size; counts = counts rows m words M; least = least_none after (omega arith); lightest = tt })
 
-  -- a block in which there are more of the least weight has one
-  pub grew_some : get_or w.counts l 0 < get_or after l 0 → SmallestOf block base ws l (length block) None → ⊥
-  grew_some grew S =
-      let (i, f, t) = count-found (λ i. eqb (get_or ws i 0) l) (length ws) (omega (arith, W.tallied.grown l)) in
-      S.each i (in_size i f) (eqb-true _ _ t)
-
-  -- y is the smallest of these, and r that or the word held
-  module _ (y : ℕ) (r : Lightest) (few : l < 33) (S : SmallestOf block base ws l (length block) (Some y))
+  -- there is one: y is the smallest of these, and r that or the word held
+  module _ {y : ℕ} {r : Lightest} (few : l < 33) (small-block : (i : ℕ) → i < length block → get_or block i 0 < 2 ^ 32) (small-base : base < 2 ^ 32)
+      (grew : get_or w.counts l 0 < get_or after l 0) (S : SmallestOf block base ws l (length block) y)
       (K : Kept w.lightest (record { weight = l; word = y }) r) where
+    -- no machine word is larger than 2^32 - 1, so that y is a word of the block
+    found : (i : ℕ) × (i < length block) × (get_or ws i 0 ≡ l) × (y ≡ get_or block i 0 ⊕ base)
+    found = go S.one
+      where
+        go : (y ≡ 2 ^ 32 - 1) ⊎ ((i : ℕ) × (i < length block) × (get_or ws i 0 ≡ l) × (y ≡ get_or block i 0 ⊕ base))
+            → (i : ℕ) × (i < length block) × (get_or ws i 0 ≡ l) × (y ≡ get_or block i 0 ⊕ base)
+        go (inr f) = f
+        go (inl e) =
+            let (i, f, t) = count-found (λ i. eqb (get_or ws i 0) l) (length ws) (omega (arith, W.tallied.grown l)) in
+            let q : get_or ws i 0 ≡ l = eqb-true _ _ t in
+            let g = in_size i f in
+            (i, g, q, omega (arith, S.each i g q, e, xor_lt 32 (get_or block i 0) base (small-block i g) small-base))
+
     abbrev Held : ℕ → Type 0
     Held x = w.lightest ≡ Some (record { weight = l; word = x })
 
@@ -372,17 +320,8 @@ module _ {block : List ℕ} {base : ℕ} {w : Walk} {ws after : List ℕ} (W : W
         (walks rows m words M few r.word (λ x s T at. older x at) (λ i k q. le_trans below (S.each i k q)) (met one))
       where
         met : (r.word ≡ y) ⊎ ((x : ℕ) × Held x × (r.word ≡ x)) → Met rows m words M r.word
-        met (inl e) = let (i, k, q, f) = S.one in in_block rows m words M r.word i k q (e ∙ f)
+        met (inl e) = let (i, k, q, f) = found in in_block rows m words M r.word i k q (e ∙ f)
         met (inr (x, at, e)) =
             let T : SmallestMet rows m l x = rw at at M.lightest in
             let (u, k, q) = T.met in
             ((u, omega arith, e ∙ q), ap weight e ∙ T.weighs)
-
-  -- what is held then, from the search for the smallest
-  pub walk_found : {t : ℕ} → t ≡ l → t < 33 → get_or w.counts t 0 < get_or after t 0 → (o : Option ℕ) → SmallestOf block base ws t (length block) o
-      → (res : Option Lightest) {Q : ℕ → Lightest → Type 0} → MatchOption o (res ≡ None) (λ x. IsSomeAnd res (Q x))
-      → ((x : ℕ) (r : Lightest) → Q x r → Kept w.lightest (record { weight = t; word = x }) r)
-      → BlockWalked block base w (record { counts = after; lightest = res })
-  walk_found e few grew None S res q f = absurd (grew_some (rw e at grew) (rw e at S))
-  walk_found e few grew (Some y) S None q f = absurd q
-  walk_found e few grew (Some y) S (Some r) q f = walk_smallest y r (rw e at few) (rw e at S) (rw e at (f y r q))

@@ -1,6 +1,6 @@
 -- What the walk over the codewords has found after some of the messages, and the smallest word of a weight in a block of them.
-use Rattle.std.specs.Prelude.{◌≡◌, List, not, ℕ, suc, ◌≤◌, ◌<◌, eqb, nat_lt, if◌then◌else◌, length, get_or, Option, Some, None, IfSome}
-use Rattle.std.specs.Option.{option_map, IsSomeAnd}
+use Rattle.std.specs.Prelude.{◌≡◌, ◌⊎◌, ◌-◌, ◌^◌, List, not, ℕ, suc, ◌≤◌, ◌<◌, eqb, nat_lt, if◌then◌else◌, length, get_or, Option, Some, None, IfSome}
+use Rattle.std.specs.Option.{option_map}
 use Rattle.coding.specs.Lists.{first}
 use Rattle.coding.specs.Word.{◌⊕◌, weight}
 use Rattle.coding.specs.Matrix.{encode}
@@ -16,10 +16,10 @@ least_of counts = suc (first (λ j. not (eqb (get_or counts (suc j) 0) 0)) width
 abbrev pub some_least : List ℕ → Option ℕ
 some_least counts = if nat_lt (least_of counts) weight_slots then Some (least_of counts) else None
 
--- of the block's words before m, each with base added, r is the smallest that weighs w, and none where none does
-pub record SmallestOf (block : List ℕ) (base : ℕ) (weights : List ℕ) (w m : ℕ) (r : Option ℕ) : Type 0 where
-  pub each : (i : ℕ) → i < m → get_or weights i 0 ≡ w → IsSomeAnd r (λ x. x ≤ get_or block i 0 ⊕ base)
-  pub one : IfSome r (λ x. (i : ℕ) × (i < m) × (get_or weights i 0 ≡ w) × (x ≡ get_or block i 0 ⊕ base))
+-- of the block's words before m, each with base added, r is the smallest that weighs w, or 2^32 - 1 where none does
+pub record SmallestOf (block : List ℕ) (base : ℕ) (weights : List ℕ) (w m r : ℕ) : Type 0 where
+  pub each : (i : ℕ) → i < m → get_or weights i 0 ≡ w → r ≤ get_or block i 0 ⊕ base
+  pub one : (r ≡ 2 ^ 32 - 1) ⊎ ((i : ℕ) × (i < m) × (get_or weights i 0 ≡ w) × (r ≡ get_or block i 0 ⊕ base))
 
 -- x is a codeword of weight l, the smallest of those of the messages below m
 pub record SmallestMet (rows : List ℕ) (m l x : ℕ) : Type 0 where

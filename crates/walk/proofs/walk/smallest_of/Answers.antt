@@ -1,21 +1,14 @@
--- The least of the words that have the weight.
-use Rattle.std.proofs.Common.{◌∙◌, sym, rules, ℕ, eqb}
-use borrow.Author.Tests.{tests}
-use Rattle.std.proofs.lemmas.Iterator.{YieldsList-from_slice, YieldsList-from_zip, YieldsList-from_map}
-use Rattle.std.proofs.lemmas.Iterator.Consumers.{YieldsList-at, YieldsList-from_filter, min_from_yields_List}
+-- Each word of the weight is compared with the smallest before it.
+use Rattle.std.proofs.Common.{◌∙◌, sym, ap, ℕ, Bor, min}
+use Rattle.std.proofs.lemmas.List.{length_push}
+use Rattle.std.proofs.lemmas.Slice.Zip.{zip_turn}
 use Rattle.coding.specs.Word.{◌⊕◌}
-use Rattle.std.proofs.lemmas.Iterator.Adapters.{option_map_id}
-use Rattle.walk.proofs.BlockLaws.{smallest_found}
+use Rattle.walk.proofs.BlockLaws.{smallest_met}
 use Rattle.walk.proofs.walk.smallest_of.Goals as goal
 
-pub returns : goal.returns
-returns c =
-    let e = min_from_yields_List c.map.result c.min.result c.min.ensures.ran
-    (YieldsList-from_map _ (λ (p : ℕ × ℕ). p.0 ⊕ c.args.base)
-    (YieldsList-at c.map.ensures.source
-    (YieldsList-from_filter _ (λ (p : ℕ × ℕ). eqb p.1 c.args.w)
-    (YieldsList-at c.filter.ensures.source
-    (YieldsList-from_zip (YieldsList-from_slice c.args.block.now cc) (YieldsList-from_slice c.args.weights.now cc)))
-    c.filter.ensures.closure (λ x r q k. search (rules, tests))))
-    c.map.ensures.closure (λ x r q k. search (rules, tests))) in
-    rw (sym (option_map_id c.min.result) ∙ e) (smallest_found c.args.base c.args.w c.args.block.now c.args.weights.now)
+pub loop-x-preserved-then-v-w : goal.loop-x-preserved-then-v-w
+loop-x-preserved-then-v-w c =
+    let p : Bor ℕ × Bor ℕ = (c.in-Some.field-0-0, c.in-Some.field-0-1) in
+    let t = zip_turn c.args.block.now c.args.weights.now c.loop-x.yielded c.into_iter-x-iterator.result c.loop-x.x-iterator c.next.new.self c.next.result (cc) (cc) c.loop-x.yielded_by p c.in-Some.is c.next.ensures.steps in
+    rw (length_push c.loop-x.yielded p)
+    (smallest_met c.loop-x.invariant (sym (t.3 0) ∙ c.if-v-w.true) (c.min-best.ensures ∙ ap (λ (x : ℕ). min c.loop-x.best (x ⊕ c.args.base)) (t.2 0)))

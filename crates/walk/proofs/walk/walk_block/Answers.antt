@@ -1,8 +1,8 @@
 -- The block is tallied, and where it has a word of the least weight the smallest is kept.
-use Rattle.std.proofs.Common.{◌≡◌, sym, ◌∙◌, List, ℕ, ◌<◌, ◌^◌, min, map, length, get_or, arith, rules, Fits, w32}
+use Rattle.std.proofs.Common.{◌≡◌, sym, ◌∙◌, List, ℕ, ◌<◌, ◌^◌, min, map, length, get_or, arith, Fits, w32}
 use Rattle.coding.specs.Word.{distance}
 use Rattle.words.proofs.ResultLaws.{all_slots}
-use Rattle.walk.proofs.BlockLaws.{Weighed, weights_small, weights_long, some_least_is, no_least, walk_kept, walk_found}
+use Rattle.walk.proofs.BlockLaws.{Weighed, weights_small, weights_long, some_least_is, no_least, walk_kept, walk_smallest}
 use Rattle.walk.proofs.walk.walk_block.Goals.{After-block_weights, After-least_of}
 use Rattle.walk.proofs.walk.walk_block.Goals as goal
 
@@ -33,10 +33,13 @@ tally-requires-clause-light c =
 pub returns-in-Some : goal.returns-in-Some
 returns-in-Some c =
     let size = long (goal.at.returns-in-Some c).After-block_weights in
+    let m : min (length c.args.block.now) (length c.block_weights.new.weights) ≡ length c.args.block.now = omega (arith, size) in
     let (is, few) = some_least_is c.tally.new.counts c.in-Some.weight (sym c.in-Some.is ∙ c.least_of.ensures) in
-    let m : min (length c.args.block.now) (length c.block_weights.new.weights) ≡ length c.args.block.now = omega (arith, size) in (
-      walk_found (walked (goal.at.returns-in-Some c).After-least_of) is few c.if-before-weight.true c.smallest_of.result (rw m at c.smallest_of.ensures)
-          c.map-lightest.result c.map-lightest.ensures.cases (λ x r q. search rules),
+    let grew = c.if-before-weight.true in
+    let S = rw m at c.smallest_of-word.ensures in
+    let K = c.kept.ensures in (
+      walk_smallest (walked (goal.at.returns-in-Some c).After-least_of) (rw is at few) (words c.args.block.now c.type_inv.block) c.ranges.base.fits
+          (rw is at grew) (rw is at S) (rw is at K),
       size ∙ sym c.requires.weights_len,
     )
 
