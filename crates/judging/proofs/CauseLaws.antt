@@ -1,68 +1,38 @@
 -- Laws of the causes 1 to 5, and of what is known past them.
-use mathlib.Core.Path.{◌≡◌, refl, ap}
+use mathlib.Core.Path.{◌≡◌, refl, sym, ap, ap₂, ◌∙◌}
 use mathlib.Core.List.{List}
-use mathlib.Core.Bool.{Bool, true, false}
-use Prim.Native.Nat.{ℕ, ◌+◌, ◌-◌, ◌*◌, ◌/◌, ◌≤◌, ◌<◌}
-use native.Mathlib.Nat.{le_refl}
+use mathlib.Core.Bool.{Bool}
+use Prim.Native.Nat.{ℕ, ◌+◌, ◌*◌, ◌≤◌}
 use native.Mathlib.Omega.{arith}
 use lib.Dec.{leb}
-use borrow.Author.Tests.{leb-true, le-leb, lt-leb}
+use borrow.Author.Tests.{leb-true}
 use Rattle.coding.specs.Weight.{dmin}
-use Rattle.words.specs.Limits.{width}
-use Rattle.answers.specs.Refusal.{and_then, Between, Never, Answer, done}
+use Rattle.coding.specs.Lists.{padded}
+use Rattle.coding.specs.Check.{checks}
+use Rattle.words.specs.Limits.{max_checks, width}
+use Rattle.answers.specs.Refusal.{and_then, Between, Never, Answer, done, answered}
 use Rattle.words.specs.Widest.{EveryRow, EveryWord}
 use Rattle.words.specs.Lists.{list_answer}
 use Rattle.coding.specs.Matrix.{Inside}
 use Rattle.words.proofs.WordListLaws.{list_passes}
 use Rattle.words.specs.Accepted.{matrix_answer, Accepted}
 use Rattle.words.proofs.AcceptedLaws.{accepted_in, matrix-numbered}
-use Rattle.words.proofs.CodeLaws.{distance_is}
 use Rattle.answers.specs.declared.answer.Refusal.{Refusal}
 use Rattle.answers.specs.declared.answer.Refusal.TheVariants.{RadiusTooLarge}
-use Rattle.answers.proofs.AnswerLaws.{unless_done, and_then_done, stays, goes}
+use Rattle.answers.proofs.AnswerLaws.{unless_done, and_then_done, stays, goes, ok_answered}
 use Rattle.answers.proofs.AnswerLaws.{Numbered, unless-numbered, and_then-numbered, numbered_as, never, never_of, then_never}
 use Rattle.words.proofs.ShapeLaws.{rows_first}
-use Rattle.judging.specs.Known.{asked, known_of}
+use Rattle.judging.specs.Known.{asked, known_of, KnownPast}
+use Rattle.judging.specs.declared.matrix.Known.{Known}
 use Rattle.judging.specs.Causes.{radius_answer, code_answer}
 use Rattle.outcomes.specs.declared.ending.Reading.{Reading}
 use Rattle.outcomes.specs.declared.ending.Reading.TheVariants.{Nearest, Within}
-use Rattle.std.specs.Prelude.{Err, unwrap_or}
+use Rattle.std.specs.Prelude.{Some, Result, Ok, Err}
 
--- ---- cause 5 by half of dmin - 1
-
-pub radius_large : (r d : ℕ) → 1 ≤ d → (d - 1) / 2 < r → Err RadiusTooLarge ≡ radius_answer (Within r) d
-radius_large r d h l = simp (lt-leb (2 * r + 1) d (omega arith))
-
-pub radius_fits : (r d : ℕ) → 1 ≤ d → r ≤ (d - 1) / 2 → done ≡ radius_answer (Within r) d
-radius_fits r d h l = simp (le-leb (2 * r + 1) d (omega arith))
+-- ---- cause 5
 
 pub radius_in : (r d : ℕ) → radius_answer (Within r) d ≡ done → 2 * r + 1 ≤ d
 radius_in r d e = leb-true (2 * r + 1) d (unless_done (leb (2 * r + 1) d) RadiusTooLarge done e).0
-
--- it asks for the minimum distance only within a radius
-pub radius_same : (reading : Reading) (measure : Bool) (d e : ℕ) → (asked reading measure ≡ true → d ≡ e) → radius_answer reading d ≡ radius_answer reading e
-radius_same Nearest measure d e f = refl
-radius_same (Within r) measure d e f = ap (radius_answer (Within r)) (f refl)
-
-pub asked-within : (reading : Reading) (measure : Bool) (r : ℕ) → reading ≡ Within r → asked reading measure ≡ true
-asked-within reading measure r e = ap (λ (x : Reading). asked x measure) e
-
-pub asked_measured : (reading : Reading) (measure : Bool) → measure ≡ true → asked reading measure ≡ true
-asked_measured Nearest measure e = e
-asked_measured (Within r) measure e = refl
-
--- what stands for the minimum distance where it isn't asked for plays no part
-pub radius_known : (reading : Reading) (measure : Bool) (n : ℕ) (rows : List ℕ)
-    → radius_answer reading (unwrap_or (known_of (asked reading measure) n rows).dmin 1) ≡ radius_answer reading (dmin rows)
-radius_known Nearest measure n rows = refl
-radius_known (Within r) measure n rows = refl
-
-pub known_positive : (asks : Bool) (n : ℕ) (rows : List ℕ) → 1 ≤ dmin rows → 1 ≤ unwrap_or (known_of asks n rows).dmin 1
-known_positive true n rows h = h
-known_positive false n rows h = le_refl 1
-
-pub dmin_positive : (n k : ℕ) (rows : List ℕ) → Accepted n k rows → 1 ≤ dmin rows
-dmin_positive n k rows A = (distance_is n k rows A).bounds.0
 
 -- ---- the groups in order
 
@@ -81,6 +51,31 @@ module _ (n k : ℕ) (rows : List ℕ) (reading : Reading) where
   pub at_radius : matrix_answer n k rows ≡ done → radius_answer reading (dmin rows) ≡ code_answer n k rows reading
   unfolding code_answer
   at_radius e = goes (matrix_answer n k rows) _ e
+
+  -- within a radius, by the minimum distance
+  pub at_within : (r d : ℕ) → reading ≡ Within r → d ≡ dmin rows → matrix_answer n k rows ≡ done → radius_answer (Within r) d ≡ code_answer n k rows reading
+  at_within r d e q m = ap₂ radius_answer (sym e) q ∙ at_radius m
+
+  -- else the matrix alone is asked
+  pub at_nearest : reading ≡ Nearest → code_answer n k rows reading ≡ matrix_answer n k rows
+  unfolding code_answer
+  at_nearest e = rw e (last (matrix_answer n k rows))
+    where
+      last : (a : Answer) → and_then a done ≡ a
+      last done = refl
+      last (Err c) = refl
+
+  pub known_nearest : (measure : Bool) (r : Result Known Refusal) → reading ≡ Nearest → KnownPast measure n rows (matrix_answer n k rows) r
+      → KnownPast (asked reading measure) n rows (code_answer n k rows reading) r
+  known_nearest measure r e K =
+      K ∙ ap₂ (λ (a : Answer) (b : Bool). answered a (known_of b n rows)) (sym (at_nearest e)) (sym (ap (λ (x : Reading). asked x measure) e))
+
+  pub known_within : (measure : Bool) (r : ℕ) → reading ≡ Within r → code_answer n k rows reading ≡ done → (cs : List ℕ) (d : ℕ)
+      → cs ≡ padded max_checks (checks n rows) → d ≡ dmin rows
+      → KnownPast (asked reading measure) n rows (code_answer n k rows reading) (Ok (record { checks = cs; dmin = Some d }))
+  known_within measure r e o cs d p q =
+      ap₂ (λ (x : List ℕ) (y : ℕ). Ok (record { checks = x; dmin = Some y })) p q
+      ∙ ap (λ (b : Bool). Ok (known_of b n rows)) (sym (ap (λ (x : Reading). asked x measure) e)) ∙ ok_answered _ _ o
 
 -- ---- the numbers of these causes
 

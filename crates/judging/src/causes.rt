@@ -3,11 +3,13 @@ ghost use Rattle.std.specs.Prelude.{◌≡◌, ℕ, ◌≤◌, min};
 ghost use Rattle.answers.specs.Refusal.{and_then};
 ghost use Rattle.words.specs.Lists.{list_answer};
 ghost use Rattle.words.specs.Widest.{EveryRow, EveryWord};
+ghost use Rattle.outcomes.specs.declared.ending.Reading.TheVariants.{Within};
 ghost use Rattle.judging.specs.Causes.{radius_answer, code_answer, CodeJudged};
 ghost use Rattle.judging.specs.Known.{asked, KnownPast};
 
-use crate::matrix::{Known, asks, known_past_4};
+use crate::matrix::{Known, known_past_4};
 use answers::Refusal;
+use distance::distance::{Distance, distance_of};
 use outcomes::Reading;
 use words::lists::list_cause;
 use words::shape::Matrix;
@@ -20,26 +22,32 @@ pub struct Batch<'a> {
     pub words: &'a [u32],
 }
 
-// Cause 5, by the minimum distance. Half of dmin - 1 is compared, so that no radius overflows.
-fn radius_cause(reading: Reading, d: u32) -> Result<(), Refusal>
+// Cause 5, by the minimum distance d. Half of d - 1 is compared, so that no radius overflows.
+fn radius_cause(radius: u32, d: u32) -> Result<(), Refusal>
     requires { 1 ≤ d }
-    ensures { result ≡ radius_answer reading d }
+    ensures { result ≡ radius_answer (Within radius) d }
 {
-    match reading {
-        Reading::Within(radius) if (d - 1) / 2 < radius => Err(Refusal::RadiusTooLarge),
-        _ => Ok(()),
+    if (d - 1) / 2 < radius {
+        return Err(Refusal::RadiusTooLarge);
     }
+    Ok(())
 }
 
-// Causes 1 to 5, and past them what the matrix told. Where the minimum distance isn't asked for, no reading is refused.
+// Causes 1 to 5, and past them what the matrix told. Within a radius its minimum distance is always asked for.
 fn known_past_5(measure: bool, matrix: &Matrix, reading: Reading) -> Result<Known, Refusal>
     ensures known { KnownPast (asked reading measure) matrix.now.n matrix.now.rows.now
         (code_answer matrix.now.n matrix.now.k matrix.now.rows.now reading) result }
     ensures every_row { EveryRow matrix.now.n (code_answer matrix.now.n matrix.now.k matrix.now.rows.now reading) }
 {
-    let known = known_past_4(matrix, asks(reading, measure))?;
-    radius_cause(reading, known.dmin.unwrap_or(1))?;
-    Ok(known)
+    let Reading::Within(radius) = reading else {
+        return known_past_4(matrix, measure);
+    };
+    let Distance { checks, dmin } = distance_of(matrix)?;
+    radius_cause(radius, dmin)?;
+    Ok(Known {
+        checks,
+        dmin: Some(dmin),
+    })
 }
 
 // Causes 1 to 5: what Decode asks of the matrix and of the reading.

@@ -1,4 +1,4 @@
--- Laws of decimal digits: the steps, and how many there are. Assumes nothing.
+-- Laws of decimal digits: the steps, and how many there are.
 use mathlib.Core.Path.{◌≡◌, refl, ap, ◌∙◌}
 use mathlib.Core.List.{List, [], ◌∷◌, ◌++◌}
 use Prim.Native.Nat.{ℕ, zero, suc, ◌+◌, ◌/◌, ◌%◌, ◌^◌, ◌≤◌, ◌<◌}

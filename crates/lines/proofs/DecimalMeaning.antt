@@ -1,4 +1,4 @@
--- What `decimal` means: the digits say the number, and the first of a number that is not 0 is not 0. Assumes nothing.
+-- What `decimal` means: the digits say the number, and the first of a number that is not 0 is not 0.
 use mathlib.Core.Path.{◌≡◌, refl, ap, ◌∙◌}
 use mathlib.Core.List.{List, [], ◌∷◌, ◌++◌}
 use Prim.Native.Nat.{ℕ, zero, suc, ◌+◌, ◌-◌, ◌*◌, ◌/◌, ◌%◌, ◌≤◌, ◌<◌}

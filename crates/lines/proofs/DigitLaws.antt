@@ -1,4 +1,4 @@
--- Laws of digits put eight at a time: those of a byte, drawn apart, and the groups one after the other. Assumes nothing.
+-- Laws of digits put eight at a time: those of a byte, drawn apart, and the groups one after the other.
 use mathlib.Core.Path.{◌≡◌, sym, ap, ap₂, ◌∙◌}
 use mathlib.Core.List.{List, ◌∷◌, ◌++◌}
 use mathlib.Core.Bool.{Bool}
@@ -19,7 +19,6 @@ use Rattle.coding.proofs.ListLaws.{length-tabulate, get_d_tabulate, take-tabulat
 use Rattle.coding.proofs.TestLaws.{every_entry, every_entry_lem}
 use Rattle.lines.specs.Decimal.{digit}
 use Rattle.lines.specs.Line.{digits_of}
-use Rattle.lines.specs.Inner.Bytes.{bytes_of}
 use Rattle.lines.proofs.LineLaws.{length_digits}
 
 -- ---- the digits of a byte
@@ -64,16 +63,19 @@ bit-low w i h =
     let e : 7 - i + 1 + i ≡ 8 = omega arith in
     ap (λ (k : ℕ). bit (w % 2 ^ k) i) (sym e) ∙ ap (λ (x : ℕ). x % 2) (field w (7 - i + 1) i) ∙ mod-mod-pow (w / 2 ^ i) (7 - i) 1
 
-pub apart-digits : (w : ℕ) → bytes_of 8 (apart (bit_and w 255)) ≡ digits_of 8 w
-unfolding bytes_of digits_of
+-- the m lowest bytes, the lowest first
+abbrev bytes_of : ℕ → ℕ → List ℕ
+bytes_of m x = tabulate (λ i. x / 2 ^ (8 * i) % 2 ^ 8) m
+
+apart-digits : (w : ℕ) → bytes_of 8 (apart (bit_and w 255)) ≡ digits_of 8 w
+unfolding digits_of
 apart-digits w =
     ap (λ (a : ℕ). bytes_of 8 (apart a)) (byte_is w)
     ∙ tabulate_same (λ i. apart (w % 2 ^ 8) / 2 ^ (8 * i) % 2 ^ 8) (λ i. digit (bit w i)) 8
     (λ i h. right_at (w % 2 ^ 8) i (omega arith) h ∙ ap digit (bit-low w i h))
 
 -- the bytes of a number, the lowest first
-pub bytes_low : (x : ℕ) → to_le_bytes w64 x ≡ bytes_of 8 x
-unfolding bytes_of
+bytes_low : (x : ℕ) → to_le_bytes w64 x ≡ bytes_of 8 x
 bytes_low x = simp div-one
 
 pub apart-low : (w : ℕ) → to_le_bytes w64 (apart (bit_and w 255)) ≡ digits_of 8 w

@@ -1,19 +1,17 @@
--- Laws of the lines: the parts that the writers put, one after the other, are the line. Assumes nothing.
-use mathlib.Core.Path.{◌≡◌, sym, ap, ap₂, ◌∙◌}
+-- Laws of the lines: the parts that the writers put, one after the other, are the line.
+use mathlib.Core.Path.{◌≡◌, sym, ap, ◌∙◌}
 use mathlib.Core.List.{List, [], ◌∷◌, ◌++◌, append_assoc, append-nil}
 use Prim.Native.Nat.{ℕ, zero, suc, ◌+◌, ◌-◌, ◌/◌, ◌<◌}
 use native.Mathlib.Nat.{le_of_suc-le-suc}
 use native.Mathlib.Numerals.{add-one}
 use native.Mathlib.Omega.{arith}
 use lib.ListN.{length, get_or, take}
-use lib.Seq.{take-length}
 use Rattle.coding.specs.Word.{bit}
 use Rattle.coding.proofs.ListLaws.{length-tabulate, get_d_tabulate}
 use Rattle.lines.specs.Decimal.{digit, decimal}
 use Rattle.lines.specs.Text.{written, space, line_feed}
 use Rattle.lines.specs.Closing.{closing_line}
 use Rattle.lines.specs.Line.{refused_line, code_line, digits_of, ending}
-use Rattle.lines.specs.Appended.{Appends}
 use Rattle.lines.specs.Batch.{slot_line, slot_lines}
 use Rattle.tally.specs.Slots.{slot_outcome}
 use Rattle.tally.specs.declared.tally.Tally.{Tally}
@@ -43,11 +41,6 @@ pub length_digits : (n w : ℕ) → length (digits_of n w) ≡ n
 unfolding digits_of
 length_digits n w = length-tabulate _ n
 
--- after the digits
-pub digits_end : (n w : ℕ) {before : List ℕ} {at : ℕ} {after : List ℕ} {next : ℕ} → Appends before at (digits_of n w) after next
-    → next ≡ at + n
-digits_end n w A = omega (arith, length_digits n w)
-
 pub digit_of : (n w p : ℕ) → p < n → get_or (digits_of n w) p 0 ≡ digit (bit w p)
 unfolding digits_of
 digit_of n w p h = get_d_tabulate _ n p h
@@ -66,7 +59,3 @@ slot_lines-suc n (suc i) (c ∷ cs) (d ∷ ds) h k =
 pub slot_lines_more : (n i : ℕ) (cs ds : List ℕ) → i < length cs → i < length ds
     → slot_lines n (take i cs) (take i ds) ++ slot_line n (get_or cs i 0) (get_or ds i 0) ≡ slot_lines n (take (i + 1) cs) (take (i + 1) ds)
 slot_lines_more n i cs ds h k = rw add-one (slot_lines-suc n i cs ds h k)
-
-pub slot_lines-all : (n i : ℕ) (cs ds : List ℕ) → i ≡ length cs → i ≡ length ds → slot_lines n (take i cs) (take i ds) ≡ slot_lines n cs ds
-slot_lines-all n i cs ds e f =
-    ap₂ (slot_lines n) (ap (λ (m : ℕ). take m cs) e ∙ take-length cs) (ap (λ (m : ℕ). take m ds) f ∙ take-length ds)

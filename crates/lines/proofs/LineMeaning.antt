@@ -1,4 +1,4 @@
--- What the lines mean: each is a text and a line feed, and what the closing line says. Assumes nothing.
+-- What the lines mean: each is a text and a line feed, and what the closing line says.
 use mathlib.Core.Path.{◌≡◌, refl, ap, ◌∙◌}
 use mathlib.Core.Bool.{true}
 use mathlib.Core.List.{List, [], ◌∷◌, ◌++◌, append_assoc}

@@ -1,4 +1,4 @@
--- Laws of what an output shows: the outcome of an ending, and texts cut at a character that their pieces lack. Assumes nothing.
+-- Laws of what an output shows: the outcome of an ending, and texts cut at a character that their pieces lack.
 use mathlib.Core.Path.{◌≡◌, refl, sym, ap, ◌∙◌}
 use mathlib.Core.Bool.{Bool, true, false, cond}
 use mathlib.Core.List.{List, [], ◌∷◌, ◌++◌, List-discrete}

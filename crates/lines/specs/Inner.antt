@@ -1,3 +1,2 @@
-pub mod Bytes  -- the bytes of a number
 pub mod Room  -- how many bytes writers ask for
 pub mod Wrote  -- what a writer leaves

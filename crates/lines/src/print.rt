@@ -1,6 +1,6 @@
 // The lines of the output. Each writer puts its bytes behind those that were put before.
 ghost use Rattle.std.specs.Prelude.{[], ◌∷◌, ◌++◌, ◌+◌, ◌-◌, ◌*◌, ◌/◌, ◌≤◌, length, ◌≡◌};
-ghost use Rattle.lines.specs.Inner.Bytes.{bytes_of};
+ghost use Rattle.lines.specs.Appended.{Appends};
 ghost use Rattle.lines.specs.Decimal.{decimal};
 ghost use Rattle.lines.specs.Line.{refused_line, code_line, digits_of, ending};
 ghost use Rattle.lines.specs.Closing.{closing_line};
@@ -61,6 +61,17 @@ fn fill_digits(digits: &mut [u8], w: u32)
     }
 }
 
+// The digits of a number at the front of a list, those of its tenth and then the last one; answers how many. The compiler divides by 10
+// without a division.
+fn fill_decimal(out: &mut [u8], x: usize) -> usize
+    requires { length (decimal x) ≤ length out.old }
+    ensures { Appends out.old 0 (decimal x) out.new result }
+{
+    let more = if x < 10 { 0 } else { fill_decimal(out, x / 10) };
+    out[more] = ZERO + (x % 10) as u8;
+    more + 1
+}
+
 // A list, and the position behind what was put into it.
 #[derive(Drop)]
 struct Writer<'a> {
@@ -88,15 +99,13 @@ impl Writer<'_> {
         self.at = end;
     }
 
-    // The digits of a number below 10 or of its tenth, then the last one. The compiler divides by 10 without a division.
+    // The digits of a number.
     fn put_decimal(&mut self, x: usize)
         requires { Room (length (decimal x)) self.old }
         ensures { Wrote self.old (decimal x) self.new }
     {
-        if 10 <= x {
-            self.put_decimal(x / 10);
-        }
-        self.put(ZERO + (x % 10) as u8);
+        let digits = fill_decimal(&mut self.out[self.at..], x);
+        self.at += digits;
     }
 
     // A number and the character after it.

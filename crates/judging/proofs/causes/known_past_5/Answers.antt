@@ -1,56 +1,55 @@
 -- The causes of the matrix, then cause 5 by its minimum distance.
-use Rattle.std.proofs.Common.{◌≡◌, sym, ap, ◌∙◌, ℕ, List, Bool}
-use Rattle.std.specs.Prelude.{Ok, unwrap_or}
+use Rattle.std.proofs.Common.{sym, ap, ◌∙◌, ℕ, List}
+use Rattle.std.specs.Prelude.{Result}
+use Rattle.answers.specs.Refusal.{answer_of}
+use Rattle.answers.specs.declared.answer.Refusal.{Refusal}
+use Rattle.answers.proofs.AnswerLaws.{handed_on, answer_of-answered, err_answered, answered_err, answered_ok}
 use Rattle.words.specs.Accepted.{matrix_answer}
-use Rattle.words.proofs.AcceptedLaws.{accepted_in}
-use Rattle.answers.specs.Refusal.{Answer, done}
-use Rattle.answers.proofs.AnswerLaws.{handed_on, err_answered, answered_err, ok_answered, answered_ok}
-use Rattle.outcomes.specs.declared.ending.Reading.{Reading}
-use Rattle.judging.specs.Causes.{radius_answer, code_answer}
-use Rattle.judging.specs.Known.{asked, known_of}
-use Rattle.judging.specs.declared.matrix.Known.{Known}
-use Rattle.judging.proofs.CauseLaws.{radius_known, known_positive, dmin_positive, code_every_row, at_matrix, at_radius}
+use Rattle.words.specs.Widest.{EveryRow}
+use Rattle.words.proofs.ShapeLaws.{every_row_of}
+use Rattle.distance.specs.Distance.{DistanceOf}
+use Rattle.distance.specs.declared.distance.Distance.{Distance}
+use Rattle.judging.proofs.CauseLaws.{at_matrix, at_within, known_nearest, known_within, code_every_row}
 use Rattle.judging.proofs.causes.known_past_5.Goals as goal
 
-pub returns-in_err-known : goal.returns-in_err-known
-returns-in_err-known c =
+every_row : (n k : ℕ) (rows : List ℕ) (r : Result Distance Refusal) → DistanceOf n k rows r → EveryRow n (matrix_answer n k rows)
+every_row n k rows r D = every_row_of _ _ (ap answer_of D.checks.is ∙ answer_of-answered (matrix_answer n k rows) _) D.checks.every_row
+
+pub returns-in_default : goal.returns-in_default
+returns-in_default c =
     let m = c.args.matrix.now in
-    let e = answered_err _ _ _ (sym c.in_err-known.was ∙ c.known_past_4.ensures.known) in
     record {
-      known = handed_on _ _ c.from_residual.ensures ∙ err_answered (code_answer m.n m.k m.rows.now c.args.reading) _ _ (sym (at_matrix m.n m.k m.rows.now c.args.reading _ e) ∙ e);
+      known = known_nearest m.n m.k m.rows.now c.args.reading c.args.measure _ c.in_default.is c.known_past_4.ensures.known;
       every_row = code_every_row m.n m.k m.rows.now c.args.reading c.known_past_4.ensures.every_row;
     }
 
--- past the causes of the matrix cause 5 decides
-decides : (n k : ℕ) (rows : List ℕ) (reading : Reading) (measure : Bool) {b : Bool} {x : Known} {u : ℕ} {a : Answer} → b ≡ asked reading measure
-    → x ≡ known_of b n rows → u ≡ unwrap_or x.dmin 1 → a ≡ radius_answer reading u → matrix_answer n k rows ≡ done → a ≡ code_answer n k rows reading
-decides n k rows reading measure f e g h d =
-    h ∙ ap (radius_answer reading) (g ∙ ap (λ (y : Known). unwrap_or y.dmin 1) (e ∙ ap (λ (z : Bool). known_of z n rows) f))
-    ∙ radius_known reading measure n rows ∙ at_radius n k rows reading d
-
-pub radius_cause-requires : goal.radius_cause-requires
-radius_cause-requires c =
+pub returns-in_err-checks : goal.returns-in_err-checks
+returns-in_err-checks c =
     let m = c.args.matrix.now in
-    let (d, x) = answered_ok (matrix_answer m.n m.k m.rows.now) _ _ (sym c.in_ok-known.was ∙ c.known_past_4.ensures.known) in
-    let h = known_positive c.asks.result m.n m.rows.now (dmin_positive m.n m.k m.rows.now (accepted_in m.n m.k m.rows.now d)) in
-    rw (c.unwrap_or.ensures ∙ ap (λ (y : Known). unwrap_or y.dmin 1) x) h
+    let f = answered_err _ _ _ (sym c.in_err-checks.was ∙ c.distance_of.ensures.is) in
+    record {
+      known = handed_on _ _ c.from_residual.ensures ∙ err_answered _ _ _ (sym (at_matrix m.n m.k m.rows.now c.args.reading _ f) ∙ f);
+      every_row = code_every_row m.n m.k m.rows.now c.args.reading (every_row m.n m.k m.rows.now _ c.distance_of.ensures);
+    }
 
 pub returns-in_err-radius_cause : goal.returns-in_err-radius_cause
 returns-in_err-radius_cause c =
     let m = c.args.matrix.now in
-    let (d, x) = answered_ok (matrix_answer m.n m.k m.rows.now) _ _ (sym c.in_ok-known.was ∙ c.known_past_4.ensures.known) in
-    let e = decides m.n m.k m.rows.now c.args.reading c.args.measure c.asks.ensures x c.unwrap_or.ensures c.radius_cause.ensures d in
+    let (d, e) = answered_ok _ _ _ (sym c.in_ok-checks.was ∙ c.distance_of.ensures.is) in
+    let q = at_within m.n m.k m.rows.now c.args.reading _ _ c.in-Within.is (ap (λ (x : Distance). x.dmin) e) d in
     record {
-      known = handed_on _ _ c.from_residual-in_err-radius_cause.ensures ∙ err_answered _ _ _ (sym e ∙ c.in_err-radius_cause.was);
-      every_row = code_every_row m.n m.k m.rows.now c.args.reading c.known_past_4.ensures.every_row;
+      known = handed_on _ _ c.from_residual-in_err-radius_cause.ensures ∙ err_answered _ _ _ (sym q ∙ sym c.radius_cause.ensures ∙ c.in_err-radius_cause.was);
+      every_row = code_every_row m.n m.k m.rows.now c.args.reading (every_row m.n m.k m.rows.now _ c.distance_of.ensures);
     }
 
 pub returns : goal.returns
 returns c =
     let m = c.args.matrix.now in
-    let (d, x) = answered_ok (matrix_answer m.n m.k m.rows.now) _ _ (sym c.in_ok-known.was ∙ c.known_past_4.ensures.known) in
-    let e = decides m.n m.k m.rows.now c.args.reading c.args.measure c.asks.ensures x c.unwrap_or.ensures c.radius_cause.ensures d in
+    let (d, e) = answered_ok _ _ _ (sym c.in_ok-checks.was ∙ c.distance_of.ensures.is) in
+    let same = ap (λ (x : Distance). x.dmin) e in
+    let q = at_within m.n m.k m.rows.now c.args.reading _ _ c.in-Within.is same d in
     record {
-      known = ap Ok (x ∙ ap (λ (z : Bool). known_of z m.n m.rows.now) c.asks.ensures) ∙ ok_answered _ _ (sym e ∙ c.in_ok-radius_cause.was);
-      every_row = code_every_row m.n m.k m.rows.now c.args.reading c.known_past_4.ensures.every_row;
+      known = known_within m.n m.k m.rows.now c.args.reading c.args.measure _ c.in-Within.is (sym q ∙ sym c.radius_cause.ensures ∙ c.in_ok-radius_cause.was) _ _
+          (ap (λ (x : Distance). x.checks) e) same;
+      every_row = code_every_row m.n m.k m.rows.now c.args.reading (every_row m.n m.k m.rows.now _ c.distance_of.ensures);
     }
