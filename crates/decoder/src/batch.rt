@@ -56,8 +56,9 @@ fn correct(batch: &Batch, out: &mut [u32], counts: &mut [u8])
     ensures codewords { out.new ≡ words_with batch.now.reading batch.now.words.now out.old }
     ensures counts { counts.new ≡ counts_with batch.now.reading batch.now.words.now out.old }
 {
+    let reading = batch.reading;
     for (i, &w) in batch.words.iter().enumerate() {
-        let o = outcome_of(batch.reading, w, out[i]);
+        let o = outcome_of(reading, w, out[i]);
         out[i] = o.word(w);
         counts[i] = o.count();
     }
