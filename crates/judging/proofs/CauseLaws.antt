@@ -2,10 +2,10 @@
 use mathlib.Core.Path.{◌≡◌, refl, sym, ap, ap₂, ◌∙◌}
 use mathlib.Core.List.{List}
 use mathlib.Core.Bool.{Bool}
-use Prim.Native.Nat.{ℕ, ◌+◌, ◌*◌, ◌≤◌}
+use Prim.Native.Nat.{ℕ, ◌+◌, ◌-◌, ◌*◌, ◌/◌, ◌≤◌, ◌<◌}
 use native.Mathlib.Omega.{arith}
 use lib.Dec.{leb}
-use borrow.Author.Tests.{leb-true}
+use borrow.Author.Tests.{leb-true, le-leb, lt-leb}
 use Rattle.coding.specs.Weight.{dmin}
 use Rattle.coding.specs.Lists.{padded}
 use Rattle.coding.specs.Check.{checks}
@@ -29,7 +29,13 @@ use Rattle.outcomes.specs.declared.ending.Reading.{Reading}
 use Rattle.outcomes.specs.declared.ending.Reading.TheVariants.{Nearest, Within}
 use Rattle.std.specs.Prelude.{Some, Result, Ok, Err}
 
--- ---- cause 5
+-- ---- cause 5 by half of dmin - 1
+
+pub radius_large : (r d : ℕ) → 1 ≤ d → (d - 1) / 2 < r → Err RadiusTooLarge ≡ radius_answer (Within r) d
+radius_large r d h l = simp (lt-leb (2 * r + 1) d (omega arith))
+
+pub radius_fits : (r d : ℕ) → 1 ≤ d → r ≤ (d - 1) / 2 → done ≡ radius_answer (Within r) d
+radius_fits r d h l = simp (le-leb (2 * r + 1) d (omega arith))
 
 pub radius_in : (r d : ℕ) → radius_answer (Within r) d ≡ done → 2 * r + 1 ≤ d
 radius_in r d e = leb-true (2 * r + 1) d (unless_done (leb (2 * r + 1) d) RadiusTooLarge done e).0

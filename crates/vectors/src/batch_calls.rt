@@ -8,22 +8,25 @@ use judging::Batch;
 use outcomes::Reading;
 use words::shape::Matrix;
 
+// Decode.
+fn decoded(rt: &(impl Input + Print), batch: &Batch) {
+    with_lists(rt, |lists| decode(batch, lists));
+}
+
 // Decode on lists that an earlier Decode left: its rows were the words, its words the rows.
-fn decoded_again(rt: &(impl Input + Print), batch: Batch) {
-    let Matrix { n, k, rows } = batch.matrix;
+fn decoded_again(rt: &(impl Input + Print), batch: &Batch) {
     let matrix = Matrix {
-        n,
-        k,
         rows: batch.words,
+        ..batch.matrix
     };
     let earlier = Batch {
         matrix,
-        reading: Reading::Nearest,
-        words: rows,
+        words: batch.matrix.rows,
+        ..*batch
     };
     with_lists(rt, |lists| {
         let _ = decode(&earlier, lists);
-        decode(&batch, lists)
+        decode(batch, lists)
     });
 }
 
@@ -31,8 +34,15 @@ pub(crate) fn call(rt: &(impl Input + Print), operation: u8, record: &Record) {
     let matrix = record.matrix();
     let mut buffer = [0u32; SLOTS];
     let words = list(rt, &mut buffer);
-    let within = Reading::Within(record.x);
-    let reading = Reading::Nearest;
+    let nearest = Batch {
+        matrix,
+        reading: Reading::Nearest,
+        words,
+    };
+    let within = Batch {
+        reading: Reading::Within(record.x),
+        ..nearest
+    };
     match operation {
         20 => with_list(
             rt,
@@ -46,35 +56,8 @@ pub(crate) fn call(rt: &(impl Input + Print), operation: u8, record: &Record) {
             UNUSED,
             |out| message(&matrix, words, out),
         ),
-        23 => with_lists(
-            rt,
-            |lists| decode(
-                &Batch {
-                    matrix,
-                    reading: within,
-                    words,
-                },
-                lists,
-            ),
-        ),
-        24 => decoded_again(
-            rt,
-            Batch {
-                matrix,
-                reading,
-                words,
-            },
-        ),
-        _ => with_lists(
-            rt,
-            |lists| decode(
-                &Batch {
-                    matrix,
-                    reading,
-                    words,
-                },
-                lists,
-            ),
-        ),
+        23 => decoded(rt, &within),
+        24 => decoded_again(rt, &nearest),
+        _ => decoded(rt, &nearest),
     }
 }
