@@ -51,13 +51,15 @@ fn look_up(leaders: &[u32], list: &mut [u32])
 }
 
 // Each leader becomes the codeword of the word beside it, and its count is written.
+// By index: after an adapter of `iter_mut`, as a zip of the two lists, a proof knows nothing of what they hold.
 fn correct(batch: &Batch, out: &mut [u32], counts: &mut [u8])
     requires { (length out.old ≡ length batch.now.words.now) × (length counts.old ≡ length batch.now.words.now) }
     ensures codewords { out.new ≡ words_with batch.now.reading batch.now.words.now out.old }
     ensures counts { counts.new ≡ counts_with batch.now.reading batch.now.words.now out.old }
 {
+    let reading = batch.reading;
     for (i, &w) in batch.words.iter().enumerate() {
-        let o = outcome_of(batch.reading, w, out[i]);
+        let o = outcome_of(reading, w, out[i]);
         out[i] = o.word(w);
         counts[i] = o.count();
     }

@@ -8,8 +8,8 @@ ghost use Rattle.distance.specs.Inner.LeastSum.{ReducedMatrix};
 use crate::search::least_sum;
 use answers::Refusal;
 use parity::code_of;
-use walk::{NO_WEIGHT, walk_all};
-use words::limits::MAX_CHECKS;
+use walk::walk_all;
+use words::limits::{MAX_CHECKS, WEIGHT_SLOTS};
 use words::shape::Matrix;
 use words::word::weight;
 
@@ -24,14 +24,14 @@ fn least_weight(rows: &[u32]) -> u32
     ensures { result ≡ dmin rows.now }
 {
     let lighter = |least: u32, word: u32| least.min(weight(word));
-    let mut best = NO_WEIGHT;
+    // Heavier than any word.
+    let mut best = WEIGHT_SLOTS as u32;
     for t in 1..=rows.len() {
         if best as usize <= t {
             return best;
         }
         if SUMMED_ROWS < t && rows.len() <= WALKED_ROWS {
-            let w = walk_all(rows);
-            return w.least;
+            return walk_all(rows).lightest.map_or(best, |l| l.weight);
         }
         best = least_sum(rows, t, 0, &lighter, best);
     }

@@ -5,7 +5,6 @@ ghost use Rattle.distance.specs.Inner.LeastSum.{of_weight};
 ghost use Rattle.distance.specs.SmallestSum.{SmallestSum};
 
 use crate::search::least_sum;
-use walk::NO_WORD;
 use words::word::weight;
 
 // The smaller of best and, where it weighs w, a word. Only a smaller word is weighed.
@@ -24,7 +23,8 @@ pub fn smallest_weighing(rows: &[u32], w: u32) -> u32
     ensures { SmallestSum rows.now w result }
 {
     let keep = move |best: u32, word: u32| smaller(best, word, w);
-    let mut best = NO_WORD;
+    // No word is larger.
+    let mut best = u32::MAX;
     for t in 1..=rows.len().min(w as usize) {
         best = least_sum(rows, t, 0, &keep, best);
     }

@@ -1,5 +1,5 @@
 -- Laws of numbers side by side in lanes of five bits: sums and masks go lane by lane, and the lowest lane that reaches 16 is found by the
--- zeros below its highest bit. Assumes nothing.
+-- zeros below its highest bit.
 use mathlib.Core.Path.{◌≡◌, refl, sym, ap, ap₂, ◌∙◌}
 use mathlib.Core.List.{List, [], ◌∷◌}
 use mathlib.Core.Bool.{Bool, true, false, cond}

@@ -51,7 +51,7 @@ pub(crate) fn near_row(s: u32) -> u32
     requires { s < 2 ^ 12 }
     ensures { result ≡ first (λ i. leb (weight (s ⊕ get_or golay_checks i 0)) 2) 12 }
 {
-    let half = (u32::count_ones(s) / 2) as u64;
+    let half = u64::from(s.count_ones() / 2);
     let reached = overlaps(s) + (ROW_LANES - half * ONE_LANES);
-    u64::trailing_zeros(reached & HIGH_LANES) / 5
+    (reached & HIGH_LANES).trailing_zeros() / 5
 }

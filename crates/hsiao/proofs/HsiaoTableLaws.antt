@@ -1,5 +1,4 @@
 -- The table of columns: one computed test gives the rule of its columns, and so the minimum distance; the totals of its ones likewise.
--- Assumes nothing.
 use mathlib.Core.Path.{◌≡◌, refl}
 use Prim.Native.Nat.{◌^◌, ◌<◌}
 use lib.Dec.{lit<}

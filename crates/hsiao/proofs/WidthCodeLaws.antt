@@ -1,5 +1,5 @@
 -- The codes of the three widths: the columns of a width are the first ones of the table, so that syndrome and outcome are those of the
--- (72,64) code shortened to the width. Assumes nothing.
+-- (72,64) code shortened to the width.
 use mathlib.Core.Path.{◌≡◌, refl, sym, ap, ap₂, ◌∙◌}
 use mathlib.Core.Logic.{◌≢◌}
 use mathlib.Core.Bool.{Bool, true, false, ◌&&◌, ◌||◌}

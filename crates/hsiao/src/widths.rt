@@ -40,32 +40,69 @@ fn word_cause(width: u32, w: Word) -> Result<(), Refusal>
     Ok(())
 }
 
-// The check bits that make the data a codeword. A width other than 16, 32 or 64 is refused, then data beyond it.
-pub fn encode(width: u32, bits: u64) -> Result<u8, Refusal>
-    ensures { Encoded width bits result }
+// Each width has calls of its own, so that the compiler cuts tests and sum to it: a width at run time costs a quarter more, or two fifths.
+
+// The check bits that make the data a codeword.
+fn encoded<const WIDTH: u32>(bits: u64) -> Result<u8, Refusal>
+    ensures { Encoded WIDTH bits result }
 {
     let data = Word {
         check: 0,
         data: bits,
     };
-    word_cause(width, data)?;
+    word_cause(WIDTH, data)?;
     Ok(column_sum(bits))
 }
 
-// Decode at radius 1: syndrome 0 is clean, a column of the width mends its place, any other is far. A width other than 16, 32 or 64 is
-// refused, then a word beyond it.
+// Syndrome 0 is clean, a column of the width mends its place, any other is far.
+fn decoded<const WIDTH: u32>(received: Word) -> Result<Correction<Word>, Refusal>
+    ensures { Decoded WIDTH received result }
+{
+    word_cause(WIDTH, received)?;
+    let s = syndrome(received);
+    Ok(outcome_at(WIDTH, received, s).correction(received))
+}
+
+// The data of a codeword.
+fn read<const WIDTH: u32>(w: Word) -> Result<u64, Refusal>
+    ensures { MessageRead WIDTH w result }
+{
+    word_cause(WIDTH, w)?;
+    crate::message(w)
+}
+
+// Encode. A width other than 16, 32 or 64 is refused, then data beyond it.
+pub fn encode(width: u32, bits: u64) -> Result<u8, Refusal>
+    ensures { Encoded width bits result }
+{
+    match width {
+        16 => encoded::<16>(bits),
+        32 => encoded::<32>(bits),
+        64 => encoded::<64>(bits),
+        _ => Err(Refusal::NoWidth),
+    }
+}
+
+// Decode at radius 1. A width other than 16, 32 or 64 is refused, then a word beyond it.
 pub fn decode(width: u32, received: Word) -> Result<Correction<Word>, Refusal>
     ensures { Decoded width received result }
 {
-    word_cause(width, received)?;
-    let s = syndrome(received);
-    Ok(outcome_at(width, received, s).correction(received))
+    match width {
+        16 => decoded::<16>(received),
+        32 => decoded::<32>(received),
+        64 => decoded::<64>(received),
+        _ => Err(Refusal::NoWidth),
+    }
 }
 
-// Message: the data of a codeword; any other word is refused, before that a width other than 16, 32 or 64, and a word beyond it.
+// Message. A width other than 16, 32 or 64 is refused, then a word beyond it, then one that is no codeword.
 pub fn message(width: u32, w: Word) -> Result<u64, Refusal>
     ensures { MessageRead width w result }
 {
-    word_cause(width, w)?;
-    crate::message(w)
+    match width {
+        16 => read::<16>(w),
+        32 => read::<32>(w),
+        64 => read::<64>(w),
+        _ => Err(Refusal::NoWidth),
+    }
 }

@@ -1,7 +1,7 @@
 -- Laws of the causes 1 to 5, and of what is known past them.
 use mathlib.Core.Path.{◌≡◌, refl, sym, ap, ap₂, ◌∙◌}
 use mathlib.Core.List.{List}
-use mathlib.Core.Bool.{Bool, true}
+use mathlib.Core.Bool.{Bool}
 use Prim.Native.Nat.{ℕ, ◌+◌, ◌-◌, ◌*◌, ◌/◌, ◌≤◌, ◌<◌}
 use native.Mathlib.Omega.{arith}
 use lib.Dec.{leb}
@@ -39,10 +39,6 @@ radius_fits r d h l = simp (le-leb (2 * r + 1) d (omega arith))
 
 pub radius_in : (r d : ℕ) → radius_answer (Within r) d ≡ done → 2 * r + 1 ≤ d
 radius_in r d e = leb-true (2 * r + 1) d (unless_done (leb (2 * r + 1) d) RadiusTooLarge done e).0
-
-pub asked_measured : (reading : Reading) (measure : Bool) → measure ≡ true → asked reading measure ≡ true
-asked_measured Nearest measure e = e
-asked_measured (Within r) measure e = refl
 
 -- ---- the groups in order
 

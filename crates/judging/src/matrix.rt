@@ -17,6 +17,7 @@ pub struct Known {
 }
 
 // Causes 1 to 4, and past them what the matrix told.
+// Whether it is measured is a bool, no closure: the callers differ in nothing else.
 pub(crate) fn known_past_4(matrix: &Matrix, measure: bool) -> Result<Known, Refusal>
     ensures known { KnownPast measure matrix.now.n matrix.now.rows.now (matrix_answer matrix.now.n matrix.now.k matrix.now.rows.now) result }
     ensures every_row { EveryRow matrix.now.n (matrix_answer matrix.now.n matrix.now.k matrix.now.rows.now) }

@@ -1,5 +1,5 @@
 -- Laws of the list that is built: by any check rows the words fill it as their syndromes say, and by those of an accepted matrix it holds
--- the leader of every syndrome, and the number of words tried is the place of the last. Assumes nothing.
+-- the leader of every syndrome, and the number of words tried is the place of the last.
 use mathlib.Core.Path.{◌≡◌, refl, sym, ap, ◌∙◌}
 use mathlib.Core.List.{List}
 use Prim.Native.Nat.{ℕ, suc, ◌-◌, ◌^◌, ◌≤◌, ◌<◌}

@@ -32,9 +32,6 @@ use Rattle.leaders.proofs.BuiltLaws.{tried_some, leaders_long, leaders_are, trie
 -- ---- by check rows
 
 module _ (hs : List ℕ) (n c : ℕ) (before : List ℕ) where
-  pub no_room : leaders_fit n c (length before) ≡ false → LeadersBy hs n c before None before
-  no_room e = record { tries = rw e refl; room = sym e; zero_word = tt; list = rw e refl; of_matrix = λ k rows A d q t. absurd (false≢true (sym e ∙ t)) }
-
   pub filled_by_lem : leaders_fit n c (length before) ≡ true → (list : List ℕ) (r : ℕ) → list ≡ filled_by (take c hs) n c → r ≡ tried_by (take c hs) n c
       → LeadersBy hs n c before (Some r) (list ++ drop (2 ^ c) before)
   filled_by_lem e list r f g = record {

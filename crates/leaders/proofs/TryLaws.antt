@@ -1,4 +1,4 @@
--- Laws of the build, step by step: what is known of the next word, and how the recursion goes on. Assumes nothing.
+-- Laws of the build, step by step: what is known of the next word, and how the recursion goes on.
 use mathlib.Core.Path.{◌≡◌, refl, sym, ap, ap₂, ◌∙◌}
 use mathlib.Core.Logic.{◌≢◌, ◌⊎◌, inl, inr}
 use mathlib.Core.List.{List, [], ◌∷◌, map}

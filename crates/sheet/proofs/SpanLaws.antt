@@ -1,9 +1,11 @@
 -- Laws of the words in a sheet: how many they are, each of them, that each has 32 bits, and a list of them cut short.
-use mathlib.Core.Path.{◌≡◌, sym}
+use mathlib.Core.Path.{◌≡◌, sym, ap, ◌∙◌}
 use mathlib.Core.List.{List}
-use Prim.Native.Nat.{ℕ, ◌+◌, ◌*◌, ◌^◌, ◌≤◌, ◌<◌}
+use Prim.Native.Nat.{ℕ, min, ◌+◌, ◌*◌, ◌^◌, ◌≤◌, ◌<◌}
 use native.Mathlib.Omega.{arith}
+use native.Mathlib.Decide.{dec_le}
 use lib.ListN.{length, get_or, take}
+use lib.Seq.{take_all}
 use Rattle.coding.specs.Matrix.{Inside}
 use Rattle.coding.proofs.ListLaws.{length-tabulate, get_d_tabulate, take-tabulate}
 use Rattle.sheet.specs.Words.{word_at, words_at}
@@ -15,6 +17,16 @@ words_cut s at count r h = sym (take-tabulate (λ i. word_at s (at + 4 * i)) cou
 pub length-words : (s : List ℕ) (at count : ℕ) → length (words_at s at count) ≡ count
 unfolding words_at
 length-words s at count = length-tabulate (λ i. word_at s (at + 4 * i)) count
+
+-- of count words as many as there is room for
+pub words_most : (s : List ℕ) (at count room r : ℕ) → r ≡ min count room → words_at s at r ≡ take room (words_at s at count)
+words_most s at count room r e = words_cut s at count r (omega arith) ∙ go (dec_le room count)
+  where
+    go : Dec (room ≤ count) → take r (words_at s at count) ≡ take room (words_at s at count)
+    go (yes l) = let q : r ≡ room = omega arith in ap (λ (m : ℕ). take m (words_at s at count)) q
+    go (no n) =
+        let long = length-words s at count in
+        take_all r (words_at s at count) (omega (arith, long)) ∙ sym (take_all room (words_at s at count) (omega (arith, long)))
 
 pub word_of : (s : List ℕ) (at count i : ℕ) → i < count → get_or (words_at s at count) i 0 ≡ word_at s (at + 4 * i)
 unfolding words_at

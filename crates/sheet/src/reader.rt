@@ -59,7 +59,10 @@ pub fn read(bytes: &[u8]) -> Result<Sheet, Fault>
     let mut at: usize = 0;
     let mut last: u8 = 0;
     while at < bytes.len() {
-        let Field { tag, content, next } = field_at(bytes, at, last)?;
+        let answer = field_at(bytes, at, last);
+        let Ok(Field { tag, content, next }) = answer else {
+            return Err(answer.unwrap_err());
+        };
         contents[usize::from(tag)] = Some(content);
         at = next;
         last = tag;

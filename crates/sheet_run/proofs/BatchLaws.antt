@@ -2,6 +2,7 @@
 use mathlib.Core.Path.{◌≡◌, refl, sym, ap, ap₂, ◌∙◌}
 use mathlib.Core.Bool.{Bool, true, false}
 use mathlib.Core.List.{List, [], ◌∷◌, ◌++◌, map}
+use Rattle.std.specs.Prelude.{Err}
 use Prim.Native.Nat.{ℕ, ◌^◌, ◌≤◌, ◌<◌}
 use native.Mathlib.Decide.{ℕ_discrete}
 use native.Mathlib.Omega.{arith}
@@ -13,11 +14,9 @@ use Rattle.coding.specs.Word.{weight}
 use Rattle.coding.specs.Weight.{dmin}
 use Rattle.coding.specs.Leader.{syndrome_of, leader_of}
 use Rattle.words.specs.Limits.{max_words, max_checks}
-use Rattle.answers.specs.Refusal.{number_of, value_of, if_done}
+use Rattle.answers.specs.Refusal.{Answer, done, number_of, value_of}
 use Rattle.words.specs.Accepted.{Accepted}
 use Rattle.answers.specs.declared.answer.Refusal.{Refusal}
-use Rattle.answers.specs.declared.answer.Answer.{Answer}
-use Rattle.answers.specs.declared.answer.Answer.TheVariants.{Done, Refused}
 use Rattle.words.proofs.AcceptedLaws.{accepted_in}
 use Rattle.words.proofs.CodeLaws.{leader_weight}
 use Rattle.outcomes.specs.Outcome.{takes, outcome_of, decoded_as, word_of, count_of}
@@ -71,11 +70,11 @@ module _ {B : Batch} {r : Answer} {after : Lent}
   answer_is : r ≡ decode_answer B.n B.k B.rows B.reading B.words max_words max_words (2 ^ max_checks)
   answer_is = rw length-replicate at D.answer
 
-  pub refused_output : (c : Refusal) → r ≡ Refused c → refused_line (number_of c) (value_of c) ≡ batch_output B.n B.k B.rows B.reading B.words
+  pub refused_output : (c : Refusal) → r ≡ Err c → refused_line (number_of c) (value_of c) ≡ batch_output B.n B.k B.rows B.reading B.words
   unfolding batch_output
   refused_output c e = ap (λ (a : Answer). lines_of a B.n B.k B.rows B.reading B.words) (sym e ∙ answer_is)
 
-  module _ (d : r ≡ Done) where
+  module _ (d : r ≡ done) where
     passed : Passed B.n B.k B.rows B.reading B.words max_words max_words (2 ^ max_checks)
     passed = batch_in B.n B.k B.rows B.reading B.words max_words max_words (2 ^ max_checks) (sym answer_is ∙ d)
 
@@ -117,11 +116,11 @@ module _ {B : Batch} {r : Answer} {after : Lent}
     tally_is : slot_tally (take (length B.words) after.counts) ≡ tally_of (map (decoded_as B.n B.rows B.reading) B.words)
     tally_is = ap slot_tally counts_are ∙ slot_tally_lem B.n B.k B.rows accepted B.reading B.words
 
-    pub done_output : (x : ℕ) → x ≡ if_done r (dmin B.rows) 0
+    pub done_output : (x : ℕ) → x ≡ dmin B.rows
         → code_line B.n B.k x
         ++ slot_lines B.n (take (length B.words) after.codewords) (take (length B.words) after.counts)
         ++ closing_line (slot_tally (take (length B.words) after.counts)) ≡ batch_output B.n B.k B.rows B.reading B.words
     unfolding batch_output
     done_output x e =
-        ap₂ (λ (l m : List ℕ). l ++ m) (ap₂ (λ (y : ℕ) (l : List ℕ). code_line B.n B.k y ++ l) (rw d at e) lines_are) (ap closing_line tally_is)
+        ap₂ (λ (l m : List ℕ). l ++ m) (ap₂ (λ (y : ℕ) (l : List ℕ). code_line B.n B.k y ++ l) e lines_are) (ap closing_line tally_is)
         ∙ ap (λ (a : Answer). lines_of a B.n B.k B.rows B.reading B.words) (sym d ∙ answer_is)

@@ -8,8 +8,7 @@ use lib.ListN.{length-map}
 use Rattle.coding.specs.Weight.{dmin}
 use Rattle.words.specs.Limits.{max_words, max_checks}
 use Rattle.words.specs.Accepted.{Accepted}
-use Rattle.answers.specs.declared.answer.Answer.{Answer}
-use Rattle.answers.specs.declared.answer.Answer.TheVariants.{Done, Refused}
+use Rattle.answers.specs.Refusal.{Answer, done}
 use Rattle.words.proofs.AcceptedLaws.{accepted_in}
 use Rattle.outcomes.specs.Outcome.{word_in, decoded_as}
 use Rattle.outcomes.specs.declared.ending.Reading.{Reading}
@@ -92,7 +91,7 @@ module _ (sheet : List ℕ) (s : Sheet) (e : sheet_of sheet ≡ Ok s) where
   abbrev texts : List (List ℕ)
   texts = map (λ w. word_text s.n w (decoded_as s.n rows_of s.reading w)) received
 
-  done_closed : Accepted s.n s.k rows_of → ClosingShows sheet (lines_of Done s.n s.k rows_of s.reading received)
+  done_closed : Accepted s.n s.k rows_of → ClosingShows sheet (lines_of done s.n s.k rows_of s.reading received)
   done_closed A =
       let outcome = decoded_as s.n rows_of s.reading in
       let t = tally_of (map outcome received) in
@@ -115,10 +114,10 @@ module _ (sheet : List ℕ) (s : Sheet) (e : sheet_of sheet ≡ Ok s) where
     where
       go : (a : Answer) → decode_answer s.n s.k rows_of s.reading received max_words max_words (2 ^ max_checks) ≡ a
           → Closed sheet (lines_of a s.n s.k rows_of s.reading received)
-      go Done q h =
+      go done q h =
           done_closed (accepted_in s.n s.k rows_of
           (batch_in s.n s.k rows_of s.reading received max_words max_words (2 ^ max_checks) q).matrix)
-      go (Refused c) q h = absurd (h (refused_begins _ _))
+      go (Err c) q h = absurd (h (refused_begins _ _))
 
 closed_as : (sheet : List ℕ) (a : Result Sheet Fault) → sheet_of sheet ≡ a → Closed sheet (printed sheet a)
 closed_as sheet (Ok s) e = batch-closed sheet s e

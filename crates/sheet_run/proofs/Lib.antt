@@ -1,4 +1,3 @@
-pub mod LoadLaws  -- loaded words
 pub mod BatchLaws  -- lines and tally by Decode's slots
 pub mod RefusalMeaning  -- what a refusal means
 pub mod ClosingMeaning  -- what the closing line means

@@ -1,15 +1,14 @@
 -- What a refusal of the output means: at 32 places none is under 3 or 7.
 use mathlib.Core.Path.{◌≡◌, refl, sym, ap, ◌∙◌}
 use mathlib.Core.List.{List, [], ◌∷◌, ◌++◌}
+use Rattle.std.specs.Prelude.{Err}
 use Prim.Native.Nat.{ℕ, ◌+◌, ◌^◌, ◌<◌}
 use native.Mathlib.Omega.{arith}
 use lib.ListN.{length, get_or}
 use lib.Seq.{get_or-take}
 use Rattle.words.specs.Limits.{max_words, max_checks}
-use Rattle.answers.specs.Refusal.{number_of, value_of, Between, Never}
+use Rattle.answers.specs.Refusal.{Answer, done, number_of, value_of, Between, Never}
 use Rattle.answers.specs.declared.answer.Refusal.{Refusal}
-use Rattle.answers.specs.declared.answer.Answer.{Answer}
-use Rattle.answers.specs.declared.answer.Answer.TheVariants.{Done, Refused}
 use Rattle.answers.proofs.AnswerLaws.{never}
 use Rattle.outcomes.specs.declared.ending.Reading.{Reading}
 use Rattle.decoder.specs.Causes.{decode_answer}
@@ -38,14 +37,14 @@ refused_digit m value h = rw (decimal-small m h) refl
 
 module _ (k : ℕ) (rows : List ℕ) (reading : Reading) (words : List ℕ) where
   -- the output for a batch of words of 32 places begins with 32
-  first_line : (m : ℕ) → Begins (refusal m) (lines_of Done 32 k rows reading words) → ⊥
+  first_line : (m : ℕ) → Begins (refusal m) (lines_of done 32 k rows reading words) → ⊥
   unfolding code_line decimal
-  first_line m b = omega (arith, begins_at (refusal m) (lines_of Done 32 k rows reading words) 0 b (omega arith))
+  first_line m b = omega (arith, begins_at (refusal m) (lines_of done 32 k rows reading words) 0 b (omega arith))
 
-  no_refusal : (m : ℕ) → m < 10 → (a : Answer) → ((c : Refusal) → a ≡ Refused c → Between 1 9 (number_of c)) → Never m a
+  no_refusal : (m : ℕ) → m < 10 → (a : Answer) → ((c : Refusal) → a ≡ Err c → Between 1 9 (number_of c)) → Never m a
       → Begins (refusal m) (lines_of a 32 k rows reading words) → ⊥
-  no_refusal m h Done f g b = first_line m b
-  no_refusal m h (Refused c) f g b =
+  no_refusal m h done f g b = first_line m b
+  no_refusal m h (Err c) f g b =
       let n = f c refl in
       g c refl (omega (arith, refused_digit (number_of c) (value_of c) (omega (arith, n)), begins_at (refusal m) (refused_line (number_of c) (value_of c)) 8 b (omega arith)))
 

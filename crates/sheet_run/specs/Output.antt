@@ -2,9 +2,7 @@
 use Rattle.std.specs.Prelude.{Result, Ok, Err, List, [], ◌∷◌, ◌++◌, map, ℕ, ◌^◌}
 use Rattle.coding.specs.Weight.{dmin}
 use Rattle.words.specs.Limits.{max_words, max_checks}
-use Rattle.answers.specs.Refusal.{number_of, value_of}
-use Rattle.answers.specs.declared.answer.Answer.{Answer}
-use Rattle.answers.specs.declared.answer.Answer.TheVariants.{Done, Refused}
+use Rattle.answers.specs.Refusal.{Answer, done, number_of, value_of}
 use Rattle.outcomes.specs.Outcome.{word_in, decoded_as}
 use Rattle.decoder.specs.Causes.{decode_answer}
 use Rattle.outcomes.specs.declared.ending.Reading.{Reading}
@@ -34,8 +32,8 @@ word_lines n outcome (w ∷ words) = word_line n w (outcome w) ++ word_lines n o
 
 -- the lines of a batch, the closing line last, or the one line of a refusal
 abbrev pub lines_of : Answer → ℕ → ℕ → List ℕ → Reading → List ℕ → List ℕ
-lines_of (Refused c) n k rows reading words = refused_line (number_of c) (value_of c)
-lines_of Done n k rows reading words =
+lines_of (Err c) n k rows reading words = refused_line (number_of c) (value_of c)
+lines_of done n k rows reading words =
     code_line n k (dmin rows) ++ word_lines n (decoded_as n rows reading) words
     ++ closing_line (tally_of (map (decoded_as n rows reading) words))
 

@@ -1,7 +1,8 @@
 // Rows and words of a sheet: four bytes each, low byte first.
-ghost use Rattle.std.specs.Prelude.{◌≡◌, ◌+◌, ◌*◌, ◌≤◌, length};
-ghost use Rattle.sheet.specs.Words.{word_at};
-ghost use Rattle.sheet_run.specs.Inner.Loaded.{Loaded};
+ghost use Rattle.std.specs.Prelude.{◌≡◌, ◌+◌, ◌*◌, ◌≤◌, length, take};
+ghost use Rattle.sheet.specs.Words.{word_at, words_in};
+
+use sheet::Span;
 
 // The word whose four bytes begin at this position.
 #[tactic(auto, unfolding(sheet::specs::Words::word_at))]
@@ -12,14 +13,15 @@ fn word_at(bytes: &[u8], at: usize) -> u32
     u32::from_le_bytes([bytes[at], bytes[at + 1], bytes[at + 2], bytes[at + 3]])
 }
 
-// Copies the words from a position on into the list, as many as it holds; answers how many.
-pub(crate) fn load(bytes: &[u8], from: usize, count: usize, list: &mut [u32]) -> usize
-    requires { from + 4 * count ≤ length bytes.now }
-    ensures { Loaded bytes.now from count list.old result list.new }
+// The words of the span, as many as the list holds, copied to its front.
+pub(crate) fn load<'a>(bytes: &[u8], span: Span, list: &'a mut [u32]) -> &'a [u32]
+    requires { span.at + 4 * span.count ≤ length bytes.now }
+    ensures { result.now ≡ take (length list.old) (words_in bytes.now span) }
 {
-    let m = count.min(list.len());
-    for (i, word) in list[..m].iter_mut().enumerate() {
-        *word = word_at(bytes, from + 4 * i);
+    let m = span.count.min(list.len());
+    let words = &mut list[..m];
+    for (i, word) in words.iter_mut().enumerate() {
+        *word = word_at(bytes, span.at + 4 * i);
     }
-    m
+    words
 }

@@ -6,12 +6,12 @@ ghost use Rattle.sheet_run.specs.Run.{Ran};
 ghost use Rattle.lines.specs.Put.{max_output, Put};
 
 use crate::load::load;
-use answers::Answer;
-use decoder::decode_measured;
+use decoder::batch::{Lent, decode_measured};
+use judging::Batch;
 use lines::{MAX_OUTPUT, put_batch, put_refusal};
-use outcomes::Reading;
 use sheet::{Sheet, read};
 use words::limits::MAX_WORDS;
+use words::shape::Matrix;
 
 // More rows and words than any sheet is accepted with: a longer list is refused under the same cause.
 const ROWS_READ: usize = 33;
@@ -22,34 +22,28 @@ const WORDS_READ: usize = 513;
 const LEADERS: usize = 4096;
 
 // A batch is decoded and printed.
-fn run_batch(
-    n: u32,
-    k: u32,
-    rows: &[u32],
-    reading: Reading,
-    words: &[u32],
-    out: &mut [u8],
-) -> Option<usize>
-    ensures { Put (max_output ≤ length out.old) out.old (batch_output n k rows.now reading words.now) out.new result }
+fn run_batch(batch: &Batch, out: &mut [u8]) -> Option<usize>
+    ensures { Put (max_output ≤ length out.old) out.old
+        (batch_output batch.now.matrix.n batch.now.matrix.k batch.now.matrix.rows.now batch.now.reading batch.now.words.now) out.new result }
 {
-    let mut codewords = [0u32; MAX_WORDS];
-    let mut counts = [0u8; MAX_WORDS];
-    let mut work = [0u32; LEADERS];
-    let m = decode_measured(
-        n,
-        k,
-        rows,
-        reading,
-        words,
-        &mut codewords,
-        &mut counts,
-        &mut work,
-    );
-    if let Answer::Refused(c) = m.answer {
-        return put_refusal(out, answers::number(c), answers::value(c));
+    let mut lent = Lent {
+        codewords: &mut [0; MAX_WORDS],
+        counts: &mut [0; MAX_WORDS],
+        work: &mut [0; LEADERS],
+    };
+    match decode_measured(batch, &mut lent) {
+        Ok(dmin) => {
+            let Matrix { n, k, .. } = batch.matrix;
+            let count = batch.words.len();
+            let Lent {
+                codewords,
+                counts,
+                ..
+            } = lent;
+            put_batch(out, n, k, dmin, &codewords[..count], &counts[..count])
+        }
+        Err(c) => put_refusal(out, c.number(), c.value()),
     }
-    let count = words.len();
-    put_batch(out, n, k, m.dmin, &codewords[..count], &counts[..count])
 }
 
 // Rows and words are copied from the bytes, as many as a batch may have and one more.
@@ -57,18 +51,18 @@ fn run_sheet(bytes: &[u8], s: Sheet, out: &mut [u8]) -> Option<usize>
     requires { (s.rows.at + 4 * s.rows.count ≤ length bytes.now) × (s.words.at + 4 * s.words.count ≤ length bytes.now) }
     ensures { Put (max_output ≤ length out.old) out.old (printed bytes.now (Ok s)) out.new result }
 {
-    let mut rows = [0u32; ROWS_READ];
-    let mut words = [0u32; WORDS_READ];
-    let row_count = load(bytes, s.rows.at, s.rows.count, &mut rows);
-    let word_count = load(bytes, s.words.at, s.words.count, &mut words);
-    run_batch(
-        s.n,
-        s.k,
-        &rows[..row_count],
-        s.reading,
-        &words[..word_count],
-        out,
-    )
+    let mut rows = [0; ROWS_READ];
+    let mut words = [0; WORDS_READ];
+    let batch = Batch {
+        matrix: Matrix {
+            n: s.n,
+            k: s.k,
+            rows: load(bytes, s.rows, &mut rows),
+        },
+        reading: s.reading,
+        words: load(bytes, s.words, &mut words),
+    };
+    run_batch(&batch, out)
 }
 
 // The output for a sheet, into the first slots of a list that holds the longest; answers its length. A shorter list is left as it was.

@@ -4,42 +4,60 @@ use crate::lent::{UNUSED, with_list, with_lists};
 use crate::records::{Record, SLOTS, list};
 use decoder::decode;
 use encoder::{encode, message};
+use judging::Batch;
 use outcomes::Reading;
+use words::shape::Matrix;
 
-// Decode, its list of slots after its answer.
-fn decoded(rt: &(impl Input + Print), record: &Record, reading: Reading, words: &[u32]) {
-    let Record { n, k, rows, .. } = *record;
-    with_lists(rt, |a, b, c| decode(n, k, rows, reading, words, a, b, c));
+// Decode.
+fn decoded(rt: &(impl Input + Print), batch: &Batch) {
+    with_lists(rt, |lists| decode(batch, lists));
 }
 
 // Decode on lists that an earlier Decode left: its rows were the words, its words the rows.
-fn decoded_again(rt: &(impl Input + Print), record: &Record, words: &[u32]) {
-    let Record { n, k, rows, .. } = *record;
-    with_lists(rt, |a, b, c| {
-        decode(n, k, words, Reading::Nearest, rows, a, b, c);
-        decode(n, k, rows, Reading::Nearest, words, a, b, c)
+fn decoded_again(rt: &(impl Input + Print), batch: &Batch) {
+    let matrix = Matrix {
+        rows: batch.words,
+        ..batch.matrix
+    };
+    let earlier = Batch {
+        matrix,
+        words: batch.matrix.rows,
+        ..*batch
+    };
+    with_lists(rt, |lists| {
+        let _ = decode(&earlier, lists);
+        decode(batch, lists)
     });
 }
 
 pub(crate) fn call(rt: &(impl Input + Print), operation: u8, record: &Record) {
-    let Record { n, k, x, rows } = *record;
+    let matrix = record.matrix();
     let mut buffer = [0u32; SLOTS];
     let words = list(rt, &mut buffer);
+    let nearest = Batch {
+        matrix,
+        reading: Reading::Nearest,
+        words,
+    };
+    let within = Batch {
+        reading: Reading::Within(record.x),
+        ..nearest
+    };
     match operation {
         20 => with_list(
             rt,
             &mut [UNUSED; SLOTS],
             UNUSED,
-            |out| encode(n, k, rows, words, out),
+            |out| encode(&matrix, words, out),
         ),
         21 => with_list(
             rt,
             &mut [UNUSED; SLOTS],
             UNUSED,
-            |out| message(n, k, rows, words, out),
+            |out| message(&matrix, words, out),
         ),
-        23 => decoded(rt, record, Reading::Within(x), words),
-        24 => decoded_again(rt, record, words),
-        _ => decoded(rt, record, Reading::Nearest, words),
+        23 => decoded(rt, &within),
+        24 => decoded_again(rt, &nearest),
+        _ => decoded(rt, &nearest),
     }
 }

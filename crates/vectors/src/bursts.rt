@@ -3,7 +3,9 @@
 use crate::lent::{ENTRIES, UNUSED, UNUSED_COUNT, UNUSED_ENTRY};
 use crate::print::item;
 use crate::records::{Record, SLOTS, list, number, start};
+use decoder::batch::Lent;
 use interleaving::{decode, interleave};
+use words::shape::Matrix;
 use words::word::place;
 
 // The number of the window's first bit, and a word with a one for each changed bit of the window.
@@ -38,9 +40,7 @@ impl Tally {
 // The code with its radius, the codewords sent, how many, and their bits.
 #[derive(Clone, Copy)]
 struct Sent<'a> {
-    n: u32,
-    k: u32,
-    rows: &'a [u32],
+    matrix: Matrix<'a>,
     radius: u32,
     words: &'a [u32],
     depth: u32,
@@ -51,7 +51,7 @@ impl Sent<'_> {
     // How many places of word i are changed: place j travels as bit number depth * j + i.
     fn hits(&self, burst: Burst, i: u32) -> usize {
         let bit = |j| self.depth.wrapping_mul(j).wrapping_add(i);
-        (0..self.n).filter(|j| burst.hits(bit(*j))).count()
+        (0..self.matrix.n).filter(|j| burst.hits(bit(*j))).count()
     }
 
     // The bits as they arrive.
@@ -77,16 +77,17 @@ impl Sent<'_> {
         let mut work = [UNUSED_ENTRY; ENTRIES];
         let bits = start(&mut buffer, self.bits.len());
         self.arrive(burst, bits);
-        decode(
-            self.n,
-            self.k,
-            self.rows,
+        let mut lists = Lent {
+            codewords: &mut words,
+            counts: &mut counts,
+            work: &mut work,
+        };
+        let _ = decode(
+            &self.matrix,
             self.radius,
             self.words.len(),
             bits,
-            &mut words,
-            &mut counts,
-            &mut work,
+            &mut lists,
         );
         self.comes_back(burst, &words, &counts)
     }
@@ -103,7 +104,7 @@ impl Sent<'_> {
         let width = self.depth.wrapping_mul(self.radius);
         let windows = self
             .depth
-            .wrapping_mul(self.n)
+            .wrapping_mul(self.matrix.n)
             .wrapping_sub(width)
             .wrapping_add(1);
         let limit = 1u32.wrapping_shl(width);
@@ -121,23 +122,17 @@ impl Sent<'_> {
 
 // The words follow the matrix in the record, then 1 for every pattern, 0 for all ones.
 pub(crate) fn call(rt: &(impl Input + Print), record: &Record) {
-    let Record {
-        n,
-        k,
-        x: radius,
-        rows,
-    } = *record;
+    let matrix = record.matrix();
+    let radius = record.x;
     let mut buffer = [0u32; SLOTS];
     let words = list(rt, &mut buffer);
     let every = number(rt) == 1;
     let depth = u32::try_from(words.len()).unwrap_or(0);
     let mut buffer = [UNUSED_COUNT; SLOTS];
-    let bits = start(&mut buffer, depth.wrapping_mul(n) as usize);
-    interleave(n, k, rows, words, bits);
+    let bits = start(&mut buffer, depth.wrapping_mul(matrix.n) as usize);
+    let _ = interleave(&matrix, words, bits);
     let sent = Sent {
-        n,
-        k,
-        rows,
+        matrix,
         radius,
         words,
         depth,

@@ -2,27 +2,23 @@
 use crate::golay_patterns::{messages, patterns};
 use crate::print::{answer, item};
 use golay::{decode, encode, message};
+use outcomes::Correction;
 
 // The codeword of a message, after its answer.
 fn encoded(rt: &impl Print, u: u32) {
-    let r = encode(u);
-    answer(rt, r.answer);
-    item(rt, r.word);
+    item(rt, answer(rt, encode(u), 0));
 }
 
 // The word and its count, after the answer.
 fn decoded(rt: &impl Print, w: u32) {
-    let r = decode(w);
-    answer(rt, r.answer);
-    item(rt, r.word);
-    item(rt, r.count);
+    let c = answer(rt, decode(w), Correction { word: 0, count: 0 });
+    item(rt, c.word);
+    item(rt, c.count);
 }
 
 // The message of a word, after the answer.
 fn read(rt: &impl Print, w: u32) {
-    let r = message(w);
-    answer(rt, r.answer);
-    item(rt, r.message);
+    item(rt, answer(rt, message(w), 0));
 }
 
 pub(crate) fn call(rt: &impl Print, operation: u8, w: u32, t: u32) {

@@ -21,15 +21,13 @@ pub(crate) fn word(rt: &impl Print, w: Word) {
     item(rt, w.data);
 }
 
-// The syndrome, the answer with its count, and the data read back from the word as received.
+// The syndrome, the word with its count, and the data read back from the word as received.
 fn decoded(rt: &impl Print, w: Word) {
-    let d = decode(w);
-    let r = message(w);
+    let c = decode(w);
     item(rt, syndrome(w));
-    word(rt, d.word);
-    item(rt, d.count);
-    answer(rt, r.answer);
-    item(rt, r.data);
+    word(rt, c.word);
+    item(rt, c.count);
+    item(rt, answer(rt, message(w), 0));
 }
 
 pub(crate) fn call(rt: &impl Print, operation: u8, record: &Record) {

@@ -2,8 +2,14 @@
 // by its own calls and of the codes of 16, 32 and 64 data bits by their width.
 use crate::print::item;
 use crate::records::Entry;
-use hsiao::decoding::Decoding;
 use hsiao::{Word, decode, encode, widths};
+use outcomes::Correction;
+
+// What a refused decode gives.
+pub(crate) const NOTHING: Correction<Word> = Correction {
+    word: Word { check: 0, data: 0 },
+    count: 0,
+};
 
 // The calls of a code: those of the (72,64) code, or those by a width.
 #[derive(Clone, Copy)]
@@ -35,22 +41,16 @@ impl Calls {
     fn encode(self, data: u64) -> Word {
         let check = match self {
             Calls::Own => encode(data),
-            Calls::Width(width) => widths::encode(width, data).check,
+            Calls::Width(width) => widths::encode(width, data).unwrap_or(0),
         };
         Word { check, data }
     }
 
     // The word and its count.
-    fn decode(self, received: Word) -> Decoding {
+    fn decode(self, received: Word) -> Correction<Word> {
         match self {
             Calls::Own => decode(received),
-            Calls::Width(width) => {
-                let d = widths::decode(width, received);
-                Decoding {
-                    word: d.word,
-                    count: d.count,
-                }
-            }
+            Calls::Width(width) => widths::decode(width, received).unwrap_or(NOTHING),
         }
     }
 

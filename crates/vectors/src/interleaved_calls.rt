@@ -9,34 +9,30 @@ use interleaving::{decode, deinterleave, interleave};
 fn sent(rt: &(impl Input + Print), record: &Record) {
     let mut buffer = [0u32; SLOTS];
     let words = list(rt, &mut buffer);
-    with_list(
-        rt,
-        &mut [UNUSED_COUNT; SLOTS],
-        UNUSED_COUNT,
-        |bits| interleave(record.n, record.k, record.rows, words, bits),
-    );
+    with_list(rt, &mut [UNUSED_COUNT; SLOTS], UNUSED_COUNT, |bits| {
+        interleave(&record.matrix(), words, bits)
+    });
 }
 
 // Deinterleave, at the depth x.
 fn sorted(rt: &(impl Input + Print), record: &Record) {
-    let Record { n, k, x, rows } = *record;
+    let depth = record.x as usize;
     let mut buffer = [0u8; SLOTS];
     let bits = list(rt, &mut buffer);
-    with_list(
-        rt,
-        &mut [UNUSED; SLOTS],
-        UNUSED,
-        |out| deinterleave(n, k, rows, x as usize, bits, out),
-    );
+    with_list(rt, &mut [UNUSED; SLOTS], UNUSED, |out| {
+        deinterleave(&record.matrix(), depth, bits, out)
+    });
 }
 
 // Decode within the radius x; the depth stands before the bits.
 fn decoded(rt: &(impl Input + Print), record: &Record) {
-    let Record { n, k, x, rows } = *record;
     let depth = number(rt) as usize;
     let mut buffer = [0u8; SLOTS];
     let bits = list(rt, &mut buffer);
-    with_lists(rt, |a, b, c| decode(n, k, rows, x, depth, bits, a, b, c));
+    with_lists(
+        rt,
+        |lists| decode(&record.matrix(), record.x, depth, bits, lists),
+    );
 }
 
 pub(crate) fn call(rt: &(impl Input + Print), operation: u8, record: &Record) {

@@ -1,7 +1,8 @@
 // Lists that are lent to a call, with a mark in every slot, and printed after it. How many slots are lent stands in the record.
 use crate::print::{answer, list};
 use crate::records::{Entry, SLOTS, lent};
-use answers::Answer;
+use answers::Refusal;
+use decoder::batch::Lent;
 
 // The most entries of a working list.
 pub(crate) const ENTRIES: usize = 4200;
@@ -14,7 +15,7 @@ pub(crate) const UNUSED_COUNT: u8 = 77;
 pub(crate) const UNUSED_ENTRY: u32 = 7777;
 
 // The answer of a call on one list, with this mark in its slots, and the list.
-pub(crate) fn with_list<T: Entry, F: FnOnce(&mut [T]) -> Answer>(
+pub(crate) fn with_list<T: Entry, F: FnOnce(&mut [T]) -> Result<(), Refusal>>(
     rt: &(impl Input + Print),
     slots: &mut [T],
     mark: T,
@@ -23,12 +24,12 @@ pub(crate) fn with_list<T: Entry, F: FnOnce(&mut [T]) -> Answer>(
     requires { F.IsAlwaysCallable call }
 {
     let out = lent(rt, slots);
-    answer(rt, call(out));
+    answer(rt, call(out), ());
     list(rt, out, mark);
 }
 
 // The answer of a Decode on its three lists, and the lists.
-pub(crate) fn with_lists<F: FnOnce(&mut [u32], &mut [u8], &mut [u32]) -> Answer>(
+pub(crate) fn with_lists<F: FnOnce(&mut Lent) -> Result<(), Refusal>>(
     rt: &(impl Input + Print),
     call: F,
 )
@@ -37,11 +38,13 @@ pub(crate) fn with_lists<F: FnOnce(&mut [u32], &mut [u8], &mut [u32]) -> Answer>
     let mut words = [UNUSED; SLOTS];
     let mut counts = [UNUSED_COUNT; SLOTS];
     let mut work = [UNUSED_ENTRY; ENTRIES];
-    let a = lent(rt, &mut words);
-    let b = lent(rt, &mut counts);
-    let c = lent(rt, &mut work);
-    answer(rt, call(a, b, c));
-    list(rt, a, UNUSED);
-    list(rt, b, UNUSED_COUNT);
-    list(rt, c, UNUSED_ENTRY);
+    let mut lists = Lent {
+        codewords: lent(rt, &mut words),
+        counts: lent(rt, &mut counts),
+        work: lent(rt, &mut work),
+    };
+    answer(rt, call(&mut lists), ());
+    list(rt, lists.codewords, UNUSED);
+    list(rt, lists.counts, UNUSED_COUNT);
+    list(rt, lists.work, UNUSED_ENTRY);
 }

@@ -1,7 +1,7 @@
 // What a line is made of: text, numbers in decimal, answers, lists. What is printed is seen in what the program writes: a failed write shows
 // there as missing.
 use crate::records::Entry;
-use answers::{Answer, number, value};
+use answers::Refusal;
 use std::fmt::Display;
 
 // A text.
@@ -14,12 +14,18 @@ pub(crate) fn item(rt: &impl Print, x: impl Display + Copy) {
     let _ = print!(rt; " {x}");
 }
 
-// "done", or "refused", the number and the value beside it.
-pub(crate) fn answer(rt: &impl Print, a: Answer) {
-    let _ = match a {
-        Answer::Done => print!(rt; " done"),
-        Answer::Refused(r) => print!(rt; " refused {} {}", number(r), value(r)),
-    };
+// "done", or "refused", the number and the value beside it; answers what a call gave, or `none` where it is refused.
+pub(crate) fn answer<T: Drop>(rt: &impl Print, answered: Result<T, Refusal>, none: T) -> T {
+    match answered {
+        Ok(given) => {
+            let _ = print!(rt; " done");
+            given
+        }
+        Err(r) => {
+            let _ = print!(rt; " refused {} {}", r.number(), r.value());
+            none
+        }
+    }
 }
 
 // A name, and every entry of the list.

@@ -6,6 +6,7 @@ use crate::{
 };
 use std::fmt::Display;
 use streams::read_full;
+use words::shape::Matrix;
 
 // The most entries of a list.
 pub(crate) const SLOTS: usize = 600;
@@ -17,6 +18,17 @@ pub(crate) struct Record<'a> {
     pub(crate) k: u32,
     pub(crate) x: u32,
     pub(crate) rows: &'a [u32],
+}
+
+impl<'a> Record<'a> {
+    // The matrix of n, k and the rows.
+    pub(crate) fn matrix(&self) -> Matrix<'a> {
+        Matrix {
+            n: self.n,
+            k: self.k,
+            rows: self.rows,
+        }
+    }
 }
 
 // The next number of four bytes, high byte first.

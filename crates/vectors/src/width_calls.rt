@@ -1,7 +1,7 @@
 // Operations 50 to 53, of the codes of 16, 32 and 64 data bits: data in two numbers, the high one first, the width, and as the entry of a
 // list a check or a count, which is printed first.
 use crate::hsiao_calls::{data_of, word, word_of};
-use crate::hsiao_changes::{Calls, changes, with_count};
+use crate::hsiao_changes::{Calls, NOTHING, changes, with_count};
 use crate::print::{answer, item};
 use crate::records::Record;
 use hsiao::Word;
@@ -9,20 +9,15 @@ use hsiao::widths::{decode, encode, message};
 
 // The check bits of the data, after the answer.
 fn encoded(rt: &impl Print, width: u32, data: u64) {
-    let e = encode(width, data);
-    answer(rt, e.answer);
-    item(rt, e.check);
+    item(rt, answer(rt, encode(width, data), 0));
 }
 
 // The answer with the word and its count, and what is read back from the word as received.
 fn decoded(rt: &impl Print, width: u32, w: Word) {
-    let d = decode(width, w);
-    answer(rt, d.answer);
-    word(rt, d.word);
-    item(rt, d.count);
-    let r = message(width, w);
-    answer(rt, r.answer);
-    item(rt, r.data);
+    let c = answer(rt, decode(width, w), NOTHING);
+    word(rt, c.word);
+    item(rt, c.count);
+    item(rt, answer(rt, message(width, w), 0));
 }
 
 pub(crate) fn call(rt: &impl Print, operation: u8, record: &Record) {

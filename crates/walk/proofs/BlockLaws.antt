@@ -3,17 +3,17 @@
 use mathlib.Core.Path.{◌≡◌, refl, sym, ap, ap₂, ◌∙◌}
 use mathlib.Core.Logic.{◌≢◌, ◌⊎◌, inl, inr, ⊎_elim}
 use mathlib.Core.List.{List, map}
-use mathlib.Core.Bool.{Bool, not}
+use mathlib.Core.Bool.{Bool, true, false, not, cond}
 use Prim.Native.Nat.{ℕ, zero, suc, ◌+◌, ◌-◌, ◌≤◌, ◌<◌, ◌^◌, min}
-use native.Mathlib.Nat.{le_refl, le_trans, min-le_left, min-le_right}
-use native.Mathlib.Decide.{dec_le}
+use native.Mathlib.Nat.{le_refl, le_trans}
+use native.Mathlib.Decide.{dec_le, ℕ_discrete}
 use native.Mathlib.Omega.{arith}
-use lib.Dec.{eqb}
+use lib.Dec.{eqb, ltb}
 use lib.ListN.{length, get_or, length-map}
 use lib.Bits.{xor_lt}
 use lib.Count.{ones-le}
 use borrow.Author.Count.{below_more}
-use borrow.Author.Tests.{eq-eqb, ne_eqb, eqb-true, eqb-false, not-true, not-false}
+use borrow.Author.Tests.{eq-eqb, ne_eqb, eqb-true, eqb-false, not-true, not-false, lt-ltb, le-ltb, ltb-true, ltb-false}
 use Rattle.coding.specs.Lists.{first}
 use Rattle.coding.specs.Word.{◌⊕◌, weight, distance}
 use Rattle.coding.specs.Matrix.{encode}
@@ -21,9 +21,12 @@ use Rattle.coding.specs.Weight.{count}
 use Rattle.coding.proofs.ListLaws.{get_d_map}
 use Rattle.coding.proofs.SearchLaws.{first_is, first-le, first_hit, first-before}
 use Rattle.coding.proofs.CountLaws.{count_same, count_add, count-le, count_some, count-found}
-use Rattle.walk.specs.Walked.{least_of, SmallestOf, Walked}
-use Rattle.walk.specs.Inner.Block.{Tallied, BlockWalked}
+use Rattle.walk.specs.Walked.{least_of, some_least, SmallestOf, SmallestMet, Walked}
+use Rattle.walk.specs.Inner.Block.{Tallied, Kept, BlockWalked}
 use Rattle.walk.specs.declared.walk.Walk.{Walk}
+use Rattle.walk.specs.declared.walk.Lightest.{Lightest}
+use Rattle.std.specs.Prelude.{Option, Some, None, IfSome, MatchOption}
+use Rattle.std.specs.Option.{option_map, unwrap_or}
 
 -- weight i + 1 has been counted
 abbrev pub counted : List ℕ → ℕ → Bool
@@ -54,6 +57,28 @@ module _ {ws counts₀ : List ℕ} {i : ℕ} {counts : List ℕ} (T : Tallying w
     tally_fits =
         let w = get_or ws i 0 in
         omega (arith, T.grown w, T.room w, count-le (λ k. eqb (get_or ws k 0) w) i)
+
+-- ---- the least weight counted, where there is one
+
+pub least_some : (counts : List ℕ) (j : ℕ) → j ≡ least_of counts → j < 33 → Some j ≡ some_least counts
+least_some counts j e h = rw (← e, lt-ltb j 33 h) refl
+
+pub least_none : (counts : List ℕ) → 33 ≤ least_of counts → None ≡ some_least counts
+least_none counts h = rw (le-ltb (least_of counts) 33 h) refl
+
+pub some_least_is : (counts : List ℕ) (j : ℕ) → Some j ≡ some_least counts → (j ≡ least_of counts) × (j < 33)
+some_least_is counts j e = go (ltb (least_of counts) 33) refl e
+  where
+    go : (b : Bool) → ltb (least_of counts) 33 ≡ b → Some j ≡ cond b (Some (least_of counts)) None → (j ≡ least_of counts) × (j < 33)
+    go true l z = let same : j ≡ least_of counts = cc in (same, omega (arith, ltb-true (least_of counts) 33 l))
+    go false l z = absurd cc
+
+pub no_least : (counts : List ℕ) → None ≡ some_least counts → 33 ≤ least_of counts
+no_least counts e = go (ltb (least_of counts) 33) refl e
+  where
+    go : (b : Bool) → ltb (least_of counts) 33 ≡ b → None ≡ cond b (Some (least_of counts)) None → 33 ≤ least_of counts
+    go true l z = absurd cc
+    go false l z = ltb-false (least_of counts) 33 l
 
 -- ---- the smallest of a block's words of one weight, one word after the other
 
@@ -103,14 +128,37 @@ module _ (counts : List ℕ) where
   pub some_at : least_of counts < 33 → get_or counts (least_of counts) 0 ≢ 0
   some_at h = eqb-false _ 0 (not-true _ (first_hit (counted counts) 32 (omega arith)))
 
--- the walk w has gone on over the block: ws are its weights, after the counts and l the least weight counted then
-pub record Weighed (block : List ℕ) (base : ℕ) (w : Walk) (ws after : List ℕ) (l : ℕ) : Type 0 where
+-- the walk w goes on over the block: ws are its weights, and after the counts then
+pub record Weighed (block : List ℕ) (base : ℕ) (w : Walk) (ws after : List ℕ) : Type 0 where
   pub weights : ws ≡ map (λ b. distance b base) block
-  pub held : w.least ≡ least_of w.counts
   pub tallied : Tallied ws w.counts after
-  pub least : l ≡ least_of after
 
-module _ {block : List ℕ} {base : ℕ} {w : Walk} {ws after : List ℕ} {l : ℕ} (W : Weighed block base w ws after l) where
+-- what the walk holds
+pub held_is : (rows : List ℕ) (m : ℕ) (w : Walk) → Walked rows m w → least_of w.counts < 33
+    → (x : ℕ) × (w.lightest ≡ Some (record { weight = least_of w.counts; word = x })) × SmallestMet rows m (least_of w.counts) x
+held_is rows m w M h = go w.lightest refl M.least M.lightest
+  where
+    go : (o : Option Lightest) → w.lightest ≡ o → option_map (λ l. l.weight) o ≡ some_least w.counts → IfSome o (λ l. SmallestMet rows m l.weight l.word)
+        → (x : ℕ) × (w.lightest ≡ Some (record { weight = least_of w.counts; word = x })) × SmallestMet rows m (least_of w.counts) x
+    go None e p S = absurd (omega (arith, no_least w.counts p))
+    go (Some l) e p S =
+        let is = (some_least_is w.counts l.weight p).0 in
+        (l.word, e ∙ ap (λ (y : ℕ). Some (record { weight = y; word = l.word })) is, rw is at S)
+
+none_held : (rows : List ℕ) (m : ℕ) (w : Walk) → Walked rows m w → 33 ≤ least_of w.counts → w.lightest ≡ None
+none_held rows m w M h = go w.lightest M.least
+  where
+    go : (o : Option Lightest) → option_map (λ l. l.weight) o ≡ some_least w.counts → o ≡ None
+    go None p = refl
+    go (Some l) p = let q = some_least_is w.counts l.weight p in absurd (omega arith)
+
+module _ {block : List ℕ} {base : ℕ} {w : Walk} {ws after : List ℕ} (W : Weighed block base w ws after) where
+  abbrev was : ℕ
+  was = least_of w.counts
+
+  abbrev l : ℕ
+  l = least_of after
+
   entry : (i : ℕ) → i < length block → get_or ws i 0 ≡ distance (get_or block i 0) base
   entry i h = ap (λ (l : List ℕ). get_or l i 0) W.weights ∙ get_d_map (λ b. distance b base) block i h
 
@@ -127,20 +175,19 @@ module _ {block : List ℕ} {base : ℕ} {w : Walk} {ws after : List ℕ} {l : �
       (count_same (λ i. eqb (get_or ws i 0) j) (λ i. eqb (distance (get_or block i 0) base) j) (length block) (λ i h. ap (λ (x : ℕ). eqb x j) (entry i h)))
 
   -- a weight that was counted still is
-  falls : l ≤ w.least
-  falls = go (dec_le l w.least)
+  falls : l ≤ was
+  falls = go (dec_le l was)
     where
-      go : Dec (l ≤ w.least) → l ≤ w.least
+      go : Dec (l ≤ was) → l ≤ was
       go (yes k) = k
       go (no k) =
           let b = first-le (counted after) 32 in
-          let none : get_or after w.least 0 ≡ 0 = rw W.held (none_below after _ (omega arith)) in
-          let some : get_or w.counts w.least 0 ≢ 0 = rw W.held (some_at w.counts (omega arith)) in
-          absurd (omega (arith, W.tallied.grown w.least, none, some))
+          let none : get_or after was 0 ≡ 0 = none_below after _ (omega arith) in
+          absurd (omega (arith, W.tallied.grown was, none, some_at w.counts (omega arith)))
 
   -- none of the least weight was counted before, where that has fallen
-  not-before : l < w.least → get_or w.counts l 0 ≡ 0
-  not-before h = rw W.least (none_below w.counts _ (omega arith))
+  not-before : l < was → get_or w.counts l 0 ≡ 0
+  not-before h = none_below w.counts _ (omega arith)
 
   module _ (rows : List ℕ) (m : ℕ) (words : (i : ℕ) → i < length block → get_or block i 0 ⊕ base ≡ encode rows (m + i))
       (M : Walked rows m w) where
@@ -153,10 +200,10 @@ module _ {block : List ℕ} {base : ℕ} {w : Walk} {ws after : List ℕ} {l : �
         ∙ sym (count_add (λ u. eqb (weight (encode rows u)) j) m (length block))
 
     -- where a message before the block has a codeword of the least weight, that was the least weight before
-    met-before : l < 33 → (u : ℕ) → u < m → weight (encode rows u) ≡ l → l ≡ w.least
-    met-before h u k e = go (dec_le w.least l)
+    met-before : l < 33 → (u : ℕ) → u < m → weight (encode rows u) ≡ l → l ≡ was
+    met-before h u k e = go (dec_le was l)
       where
-        go : Dec (w.least ≤ l) → l ≡ w.least
+        go : Dec (was ≤ l) → l ≡ was
         go (yes q) = omega (arith, falls)
         go (no q) =
             absurd (omega (
@@ -171,59 +218,66 @@ module _ {block : List ℕ} {base : ℕ} {w : Walk} {ws after : List ℕ} {l : �
     Met x = ((u : ℕ) × (u < m + length block) × (x ≡ encode rows u)) × (weight x ≡ l)
 
     -- no word of the block is smaller than x, nor the one held where its weight is still the least
-    module _ (x : ℕ) (old : l ≡ w.least → x ≤ w.lightest)
-        (new : l < 33 → (i : ℕ) → i < length block → get_or ws i 0 ≡ l → x ≤ get_or block i 0 ⊕ base) where
-      smallest : l < 33 → (u : ℕ) → u < m + length block → weight (encode rows u) ≡ l → x ≤ encode rows u
-      smallest h u k e = go (dec_le (suc u) m)
+    module _ (few : l < 33) (x : ℕ) (old : (y : ℕ) → l ≡ was → SmallestMet rows m l y → w.lightest ≡ Some (record { weight = l; word = y }) → x ≤ y)
+        (new : (i : ℕ) → i < length block → get_or ws i 0 ≡ l → x ≤ get_or block i 0 ⊕ base) where
+      smallest : (u : ℕ) → u < m + length block → weight (encode rows u) ≡ l → x ≤ encode rows u
+      smallest u k e = go (dec_le (suc u) m)
         where
           go : Dec (u < m) → x ≤ encode rows u
           go (yes q) =
-              let s = met-before h u q e in
-              omega (arith, old s, (M.lightest (omega arith)).smallest u q (e ∙ s))
+              let s = met-before few u q e in
+              let (y, is, S) = held_is rows m w M (omega arith) in
+              omega (arith, old y s (rw (← s) at S) (rw (← s) at is), S.smallest u q (e ∙ s))
           go (no q) =
               let i = u - m in
               let is : m + i ≡ u = omega arith in
               let at : get_or block i 0 ⊕ base ≡ encode rows u = rw is at (words i (omega arith)) in
-              rw at at (new h i (omega arith) (entry i (omega arith) ∙ ap weight at ∙ e))
+              rw at at (new i (omega arith) (entry i (omega arith) ∙ ap weight at ∙ e))
 
-      walks : (l < 33 → Met x) → Walked rows (m + length block) (record { counts = after; least = l; lightest = x })
+      walks : Met x → Walked rows (m + length block) (record { counts = after; lightest = Some (record { weight = l; word = x }) })
       walks f = record {
         size = W.tallied.size;
         counts = counts;
-        least = W.least;
-        lightest = λ h. record { met = (f h).0; weighs = (f h).1; smallest = smallest h };
+        least = least_some after l refl few;
+        lightest = record { met = f.0; weighs = f.1; smallest = smallest };
       }
 
-    held_still : (x : ℕ) → x ≡ w.lightest → l ≡ w.least → l < 33 → Met x
-    held_still x e s h =
-        let H = M.lightest (omega arith) in
-        let (u, k, q) = H.met in
-        ((u, omega arith, e ∙ q), ap weight e ∙ H.weighs ∙ sym s)
+    -- the word held still is
+    held_still : l < 33 → {x t : ℕ} → t ≡ l → w.lightest ≡ Some (record { weight = t; word = x }) → SmallestMet rows m t x
+        → ((i : ℕ) → i < length block → get_or ws i 0 ≡ l → x ≤ get_or block i 0 ⊕ base)
+        → Walked rows (m + length block) (record { counts = after; lightest = w.lightest })
+    held_still h {x} e is S new =
+        let (u, k, q) = S.met in
+        rw (is, e) (walks h x (λ y s T at. let same : x ≡ y = ap (λ (o : Option Lightest). unwrap_or (option_map (λ h. h.word) o) 0) (sym is ∙ at) in omega arith) new ((u, omega arith, q), S.weighs ∙ e))
 
     in_block : (x i : ℕ) → i < length block → get_or ws i 0 ≡ l → x ≡ get_or block i 0 ⊕ base → Met x
     in_block x i k q e = ((m + i, omega arith, e ∙ words i k), ap weight e ∙ sym (entry i k) ∙ q)
 
   -- no word of the block has the least weight
-  pub walk_kept : (l < 33 → get_or after l 0 ≤ get_or w.counts l 0)
-      → BlockWalked block base w (record { counts = after; least = l; lightest = w.lightest })
-  walk_kept stays rows m words M =
-      walks rows m words M w.lightest (λ _. le_refl w.lightest) (λ h i k q. absurd (none h i k q))
-      (λ h. held_still rows m words M w.lightest refl (same h (dec_le w.least l)) h)
+  pub walk_kept : (l < 33 → get_or after l 0 ≤ get_or w.counts l 0) → BlockWalked block base w (record { counts = after; lightest = w.lightest })
+  walk_kept stays rows m words M = go (dec_le (suc l) 33)
     where
       none : l < 33 → (i : ℕ) → i < length block → get_or ws i 0 ≡ l → ⊥
       none h i k q =
           omega (arith, stays h, W.tallied.grown l, count_some (λ i. eqb (get_or ws i 0) l) (length ws) i (rw long k) (eq-eqb _ _ q))
 
-      same : l < 33 → Dec (w.least ≤ l) → l ≡ w.least
+      same : l < 33 → Dec (was ≤ l) → l ≡ was
       same h (yes k) = omega (arith, falls)
-      same h (no k) =
-          let some : get_or after l 0 ≢ 0 = rw W.least (some_at after (rw W.least at h)) in
-          absurd (omega (arith, some, stays h, not-before (omega arith)))
+      same h (no k) = absurd (omega (arith, some_at after h, stays h, not-before (omega arith)))
 
-  -- one has: y is the smallest of these, and r that or the word held
-  module _ {y r : ℕ} (small-block : (i : ℕ) → i < length block → get_or block i 0 < 2 ^ 32) (small-base : base < 2 ^ 32)
+      go : Dec (l < 33) → Walked rows (m + length block) (record { counts = after; lightest = w.lightest })
+      go (yes h) =
+          let s = same h (dec_le was l) in
+          let (x, is, S) = held_is rows m w M (omega (arith, s)) in
+          held_still rows m words M h (sym s) is S (λ i k q. absurd (none h i k q))
+      go (no h) =
+          rw (none_held rows m w M (omega (arith, falls)))
+          (record { size = W.tallied.size; counts = counts rows m words M; least = least_none after (omega arith); lightest = tt })
+
+  -- there is one: y is the smallest of these, and r that or the word held
+  module _ {y : ℕ} {r : Lightest} (few : l < 33) (small-block : (i : ℕ) → i < length block → get_or block i 0 < 2 ^ 32) (small-base : base < 2 ^ 32)
       (grew : get_or w.counts l 0 < get_or after l 0) (S : SmallestOf block base ws l (length block) y)
-      (K : (l < w.least → r ≡ y) × (w.least ≤ l → r ≡ min w.lightest y)) where
+      (K : Kept w.lightest (record { weight = l; word = y }) r) where
     -- no machine word is larger than 2^32 - 1, so that y is a word of the block
     found : (i : ℕ) × (i < length block) × (get_or ws i 0 ≡ l) × (y ≡ get_or block i 0 ⊕ base)
     found = go S.one
@@ -237,22 +291,37 @@ module _ {block : List ℕ} {base : ℕ} {w : Walk} {ws after : List ℕ} {l : �
             let g = in_size i f in
             (i, g, q, omega (arith, S.each i g q, e, xor_lt 32 (get_or block i 0) base (small-block i g) small-base))
 
-    below : r ≤ y
-    below = go (dec_le w.least l)
-      where
-        go : Dec (w.least ≤ l) → r ≤ y
-        go (yes k) = rw (K.1 k) (min-le_right w.lightest y)
-        go (no k) = rw (K.0 (omega arith)) (le_refl y)
+    abbrev Held : ℕ → Type 0
+    Held x = w.lightest ≡ Some (record { weight = l; word = x })
 
-    pub walk_smallest : BlockWalked block base w (record { counts = after; least = l; lightest = r })
+    cases : (o : Option Lightest) → w.lightest ≡ o
+        → MatchOption o (r.word ≡ y) (λ h. (h.weight ≡ l → r.word ≡ min h.word y) × (h.weight ≢ l → r.word ≡ y))
+        → (r.word ≤ y) × ((x : ℕ) → Held x → r.word ≤ x) × ((r.word ≡ y) ⊎ ((x : ℕ) × Held x × (r.word ≡ x)))
+    cases None e k = (omega arith, λ x q. absurd cc, inl k)
+    cases (Some h) e k = same (ℕ_discrete h.weight l)
+      where
+        is : (x : ℕ) → Held x → h ≡ record { weight = l; word = x }
+        is x q = ap (λ (o : Option Lightest). unwrap_or o h) (sym e ∙ q)
+
+        least : Dec (h.word ≤ y) → h.weight ≡ l → r.word ≡ min h.word y → (r.word ≡ y) ⊎ ((x : ℕ) × Held x × (r.word ≡ x))
+        least (yes k) s m = inr (h.word, e ∙ ap (λ (t : ℕ). Some (record { weight = t; word = h.word })) s, omega arith)
+        least (no k) s m = inl (omega arith)
+
+        same : Dec (h.weight ≡ l) → (r.word ≤ y) × ((x : ℕ) → Held x → r.word ≤ x) × ((r.word ≡ y) ⊎ ((x : ℕ) × Held x × (r.word ≡ x)))
+        same (yes s) =
+            let m = k.0 s in
+            (omega arith, λ x q. let t : h.word ≡ x = ap (λ (z : Lightest). z.word) (is x q) in omega arith, least (dec_le h.word y) s m)
+        same (no n) = (omega (arith, k.1 n), λ x q. absurd (n (ap (λ (z : Lightest). z.weight) (is x q))), inl (k.1 n))
+
+    pub walk_smallest : BlockWalked block base w (record { counts = after; lightest = Some r })
     walk_smallest rows m words M =
-        walks rows m words M r (λ e. rw (K.1 (omega arith)) (min-le_left w.lightest y)) (λ h i k q. le_trans below (S.each i k q))
-        (λ h. go h (dec_le w.least l) (dec_le w.lightest y))
+        let (below, older, one) = cases w.lightest refl K.lighter in
+        rw K.weighs
+        (walks rows m words M few r.word (λ x s T at. older x at) (λ i k q. le_trans below (S.each i k q)) (met one))
       where
-        of_block : r ≡ y → Met rows m words M r
-        of_block e = let (i, k, q, f) = found in in_block rows m words M r i k q (e ∙ f)
-
-        go : l < 33 → Dec (w.least ≤ l) → Dec (w.lightest ≤ y) → Met rows m words M r
-        go h (yes k) (yes q) = held_still rows m words M r (omega (arith, K.1 k)) (omega (arith, falls)) h
-        go h (yes k) (no q) = of_block (omega (arith, K.1 k))
-        go h (no k) q = of_block (K.0 (omega arith))
+        met : (r.word ≡ y) ⊎ ((x : ℕ) × Held x × (r.word ≡ x)) → Met rows m words M r.word
+        met (inl e) = let (i, k, q, f) = found in in_block rows m words M r.word i k q (e ∙ f)
+        met (inr (x, at, e)) =
+            let T : SmallestMet rows m l x = rw at at M.lightest in
+            let (u, k, q) = T.met in
+            ((u, omega arith, e ∙ q), ap weight e ∙ T.weighs)

@@ -20,13 +20,15 @@ use Rattle.coding.proofs.MachineLaws.{shl_one}
 use Rattle.walk.specs.Walked.{Walked}
 use Rattle.walk.specs.Inner.Block.{BlockWalked}
 use Rattle.walk.specs.declared.walk.Walk.{Walk}
+use Rattle.std.specs.Prelude.{None}
+use Rattle.walk.proofs.BlockLaws.{least_none}
 
-walked_start : (rows : List ℕ) → Walked rows 0 (record { counts = zeros 33; least = 33; lightest = 0 })
+walked_start : (rows : List ℕ) → Walked rows 0 (record { counts = zeros 33; lightest = None })
 walked_start rows = record {
   size = refl;
   counts = λ j h. get_or-replicate 33 j 0 0 h;
-  least = refl;
-  lightest = λ h. absurd (omega (arith, h));
+  least = least_none (zeros 33) (omega arith);
+  lightest = tt;
 }
 
 -- no count reaches past the messages walked, so there is room for a block more
@@ -72,7 +74,7 @@ pub record Blocks (front others block : List ℕ) (end : ℕ) (walk : Walk) (h :
   pub walked : Walked (front ++ others) (h * 2 ^ length front) walk
 
 pub blocks_start : {front others block : List ℕ} → block ≡ tabulate (encode front) (2 ^ length front) → length front + length others < 32
-    → Blocks front others block ((1 * 2 ^ length others) % 2 ^ 32) (record { counts = zeros 33; least = 33; lightest = 0 }) 0
+    → Blocks front others block ((1 * 2 ^ length others) % 2 ^ 32) (record { counts = zeros 33; lightest = None }) 0
 blocks_start {front} {others} e few = record {
   filled = e;
   few = few;

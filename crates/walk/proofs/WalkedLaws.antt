@@ -1,6 +1,7 @@
 -- Laws of a finished walk over an accepted matrix: its counts are the weight counts, its least weight is the minimum distance, and the
 -- word it holds is the lightest codeword.
-use mathlib.Core.Path.{◌≡◌, refl, sym, ap, ◌∙◌}
+use mathlib.Core.Path.{◌≡◌, refl, sym, ap, ap₂, ◌∙◌}
+use Rattle.std.specs.Prelude.{Some}
 use mathlib.Core.Logic.{◌≢◌}
 use mathlib.Core.List.{List}
 use Prim.Native.Nat.{ℕ, suc, ◌+◌, ◌-◌, ◌^◌, ◌≤◌, ◌<◌}
@@ -24,9 +25,9 @@ use Rattle.coding.proofs.WeightCountLaws.{weight_count_messages}
 use Rattle.words.specs.Limits.{max_rows}
 use Rattle.words.specs.Accepted.{Accepted}
 use Rattle.words.proofs.CodeLaws.{distance_is}
-use Rattle.walk.specs.Walked.{Walked}
+use Rattle.walk.specs.Walked.{least_of, SmallestMet, Walked}
 use Rattle.walk.specs.declared.walk.Walk.{Walk}
-use Rattle.walk.proofs.BlockLaws.{least-found}
+use Rattle.walk.proofs.BlockLaws.{least-found, held_is}
 
 -- no more rows than a matrix may have are all walked
 pub walked_all : {rows : List ℕ} {w : Walk} → length rows ≤ max_rows → Walked (take max_rows rows) (2 ^ length (take max_rows rows)) w
@@ -74,9 +75,9 @@ module _ (n k : ℕ) (rows : List ℕ) (A : Accepted n k rows) (w : Walk) (W : W
       room e = omega (arith, A.range.places)
 
   -- the least weight counted is the minimum distance
-  pub least_is : w.least ≡ dmin rows
+  least_is : least_of w.counts ≡ dmin rows
   least_is =
-      W.least ∙ sym (least-found w.counts (dmin rows) D.bounds.0 (omega (arith, D.bounds, A.range.places)) lighter (λ h. some h))
+      sym (least-found w.counts (dmin rows) D.bounds.0 (omega (arith, D.bounds, A.range.places)) lighter (λ h. some h))
     where
       lighter : (i : ℕ) → 1 ≤ i → i < dmin rows → get_or w.counts i 0 ≡ 0
       lighter i h l =
@@ -95,18 +96,15 @@ module _ (n k : ℕ) (rows : List ℕ) (A : Accepted n k rows) (w : Walk) (W : W
           omega (arith, W.counts (dmin rows) h, z, count_some (λ u. eqb (weight (encode rows u)) (dmin rows)) (2 ^ length rows) u k (eq-eqb _ _ t))
 
   -- the word held is the smallest of the nonzero codewords of that weight
-  pub held_lightest : Lightest rows w.lightest
-  held_lightest =
-      let H = W.lightest (omega (arith, least_is, D.bounds, A.range.places)) in
-      record {
-        codeword = H.met;
-        nonzero = λ z. zero_light z H.weighs;
-        weighs = H.weighs ∙ least_is;
-        smallest = λ v (u, h, e) ne q. rw e (H.smallest u h (ap weight (sym e) ∙ q ∙ sym least_is));
-      }
-    where
-      zero_light : w.lightest ≡ 0 → weight w.lightest ≡ w.least → ⊥
-      zero_light z q = omega (arith, sym q ∙ ap weight z ∙ weight-zero, least_is, D.bounds)
+  smallest_lightest : (x : ℕ) → SmallestMet rows (2 ^ length rows) (least_of w.counts) x → Lightest rows x
+  smallest_lightest x H = record {
+    codeword = H.met;
+    nonzero = λ z. omega (arith, sym H.weighs ∙ ap weight z ∙ weight-zero, least_is, D.bounds);
+    weighs = H.weighs ∙ least_is;
+    smallest = λ v (u, h, e) ne q. rw e (H.smallest u h (ap weight (sym e) ∙ q ∙ sym least_is));
+  }
 
-  pub lightest_is : w.lightest ≡ lightest_codeword n rows
-  lightest_is = lightest_only n rows A.inside D w.lightest held_lightest
+  pub lightest_is : w.lightest ≡ Some (record { weight = dmin rows; word = lightest_codeword n rows })
+  lightest_is =
+      let (x, is, H) = held_is rows (2 ^ length rows) w W (omega (arith, least_is, D.bounds, A.range.places)) in
+      is ∙ ap₂ (λ (l x : ℕ). Some (record { weight = l; word = x })) least_is (lightest_only n rows A.inside D x (smallest_lightest x H))

@@ -4,5 +4,5 @@
 pub mod walk; // blocks of codewords, and the walk over them
 
 pub use crate::walk::{
-    BLOCK, NO_WEIGHT, NO_WORD, Walk, block_rows, block_weights, least_of, smallest_of, walk_all,
+    BLOCK, Lightest, Walk, block_rows, block_weights, least_of, smallest_of, walk_all,
 };

@@ -3,8 +3,8 @@
 ghost use Rattle.std.specs.Prelude.{◌≡◌, map, ◌++◌, ℕ, ◌+◌, ◌<◌, ◌≤◌, ◌^◌, min, length, get_or, take, drop};
 ghost use Rattle.coding.specs.Word.{distance};
 ghost use Rattle.words.specs.Limits.{max_rows, weight_slots, width};
-ghost use Rattle.walk.specs.Walked.{least_of, SmallestOf, Walked};
-ghost use Rattle.walk.specs.Inner.Block.{Tallied, BlockWalked};
+ghost use Rattle.walk.specs.Walked.{some_least, SmallestOf, Walked};
+ghost use Rattle.walk.specs.Inner.Block.{Tallied, Kept, BlockWalked};
 
 use sums::{fill_sums, row_sum};
 use words::limits::{MAX_ROWS, WEIGHT_SLOTS};
@@ -15,18 +15,18 @@ const BLOCK_ROWS: usize = 8;
 
 pub const BLOCK: usize = 256;
 
-// Stands for no weight: heavier than any word.
-pub const NO_WEIGHT: u32 = 33;
+// The smallest of the codewords of the least weight but 0.
+#[derive(Clone, Copy)]
+pub struct Lightest {
+    pub weight: u32,
+    pub word: u32,
+}
 
-// Stands for no word: no word is larger.
-pub const NO_WORD: u32 = 4294967295;
-
-// What a walk has found: how many codewords of each weight, the least weight but 0 (33 where there is none), and the smallest word of it.
+// What a walk has found: how many codewords of each weight, and the lightest, where one of them is not 0.
 #[derive(Drop)]
 pub struct Walk {
     pub counts: [u32; WEIGHT_SLOTS],
-    pub least: u32,
-    pub lightest: u32,
+    pub lightest: Option<Lightest>,
 }
 
 // The weights of the block's codewords, each with base added.
@@ -61,24 +61,25 @@ fn tally(weights: &[u32], counts: &mut [u32; WEIGHT_SLOTS])
     }
 }
 
-// The least weight but 0 that has been counted, or 33.
-pub fn least_of(counts: &[u32]) -> u32
-    ensures { result ≡ least_of counts.now }
+// The least weight but 0 that has been counted.
+pub fn least_of(counts: &[u32]) -> Option<u32>
+    ensures { result ≡ some_least counts.now }
 {
     for j in 1..WEIGHT_SLOTS {
         if counts.get(j).copied().unwrap_or(0) != 0 {
-            return j as u32;
+            return Some(j as u32);
         }
     }
-    NO_WEIGHT
+    None
 }
 
-// The smallest of the block's words of weight w, each with base added, as far as weights are given; no word where there is none.
+// The smallest of the block's words of weight w, each with base added, as far as weights are given; u32::MAX where none has it, since
+// with an Option the walk over the perfect (23,12) code takes a third more.
 pub fn smallest_of(block: &[u32], base: u32, weights: &[u32], w: u32) -> u32
     ensures { SmallestOf block.now base weights.now w
         (min (length block.now) (length weights.now)) result }
 {
-    let mut best = NO_WORD;
+    let mut best = u32::MAX;
     for (&x, &v) in block.iter().zip(weights) {
         if v == w {
             best = best.min(x ^ base);
@@ -87,39 +88,40 @@ pub fn smallest_of(block: &[u32], base: u32, weights: &[u32], w: u32) -> u32
     best
 }
 
-// The word to hold, where x of weight w was held and y of weight least is found: the smaller, or y where it is lighter.
-fn kept(w: u32, x: u32, least: u32, y: u32) -> u32
-    ensures { (least < w → result ≡ y) × (w ≤ least → result ≡ min x y) }
+// The codeword to hold, where one was held and another, no heavier one is found: this, or of the same weight the smaller.
+fn kept(held: Option<Lightest>, found: Lightest) -> Lightest
+    ensures { Kept held found result }
 {
-    if least < w { y } else { x.min(y) }
+    match held {
+        Some(h) if h.weight == found.weight => Lightest {
+            weight: h.weight,
+            word: h.word.min(found.word),
+        },
+        _ => found,
+    }
 }
 
 // The walk goes on over the block with base added; the second list is room for its weights.
 fn walk_block(block: &[u32], base: u32, weights: &mut [u32], walk: Walk) -> Walk
     requires weights_len { length weights.old ≡ length block.now }
-    requires counts_len { (length walk.counts ≡ weight_slots) × (walk.least ≡ least_of walk.counts) }
     requires room { (j : ℕ) → get_or walk.counts j 0 + length block.now < 2 ^ 32 }
     ensures { BlockWalked block.now base walk result × (length weights.new ≡ length weights.old) }
 {
     block_weights(block, base, weights);
-    let mut counts = walk.counts;
+    let Walk {
+        counts: before,
+        lightest,
+    } = walk;
+    let mut counts = before;
     tally(weights, &mut counts);
-    let least = least_of(&counts);
-    let before = walk.counts;
-    let w = least as usize;
-    if w < WEIGHT_SLOTS && before[w] < counts[w] {
-        let found = smallest_of(block, base, weights, least);
-        return Walk {
-            counts,
-            least,
-            lightest: kept(walk.least, walk.lightest, least, found),
-        };
-    }
-    Walk {
-        counts,
-        least,
-        lightest: walk.lightest,
-    }
+    let lightest = match least_of(&counts) {
+        Some(weight) if before[weight as usize] < counts[weight as usize] => {
+            let word = smallest_of(block, base, weights, weight);
+            Some(kept(lightest, Lightest { weight, word }))
+        }
+        _ => lightest,
+    };
+    Walk { counts, lightest }
 }
 
 // The walk over all sums of the first rows and the others, block by block.
@@ -132,8 +134,7 @@ fn walk_blocks(front: &[u32], others: &[u32], block: &mut [u32], weights: &mut [
     let end = 1u32 << others.len();
     let mut walk = Walk {
         counts: [0u32; WEIGHT_SLOTS],
-        least: NO_WEIGHT,
-        lightest: 0,
+        lightest: None,
     };
     for h in 0..end {
         let base = row_sum(others, h);
@@ -166,20 +167,9 @@ fn walk_few(rows: &[u32]) -> Walk
     )
 }
 
-// The walk over all codewords of the rows, of as many as a matrix may have. Where all of them are 0, so is the word.
+// The walk over all codewords of the rows, of as many as a matrix may have.
 pub fn walk_all(rows: &[u32]) -> Walk
-    ensures walked { Walked (take max_rows rows.now) (2 ^ length (take max_rows rows.now)) result }
-    ensures lightest_value { weight_slots ≤ result.least → result.lightest ≡ 0 }
+    ensures { Walked (take max_rows rows.now) (2 ^ length (take max_rows rows.now)) result }
 {
-    let m = rows.len().min(MAX_ROWS);
-    let walk = walk_few(&rows[..m]);
-    if walk.least < NO_WEIGHT {
-        return walk;
-    }
-    let counts = walk.counts;
-    Walk {
-        counts,
-        least: walk.least,
-        lightest: 0,
-    }
+    walk_few(&rows[..rows.len().min(MAX_ROWS)])
 }

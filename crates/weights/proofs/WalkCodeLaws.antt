@@ -20,12 +20,15 @@ use Rattle.coding.proofs.CountLaws.{count-found}
 use Rattle.coding.proofs.WeightCountLaws.{weight_count_messages}
 use Rattle.words.specs.Accepted.{Accepted}
 use Rattle.words.proofs.CodeLaws.{rows_are}
-use Rattle.walk.specs.Walked.{least_of, SmallestMet, Walked}
+use Rattle.walk.specs.Walked.{least_of, some_least, SmallestMet, Walked}
+use Rattle.walk.specs.declared.walk.Lightest.{Lightest}
+use Rattle.std.specs.Prelude.{Option, Some, None, MatchOption}
+use Rattle.std.specs.Option.{IsSomeAnd}
 use Rattle.distance.specs.Inner.LeastSum.{ReducedMatrix}
 use Rattle.distance.specs.SmallestSum.{FewWeigh, SmallestSum}
 use Rattle.weights.specs.Inner.Overlap.{slots}
 use Rattle.walk.specs.declared.walk.Walk.{Walk}
-use Rattle.walk.proofs.BlockLaws.{some_at}
+use Rattle.walk.proofs.BlockLaws.{some_at, some_least_is}
 use Rattle.weights.proofs.WeightSlotLaws.{slots_long, slots_at}
 use Rattle.distance.proofs.LeastSumLaws.{reduced_matrix, reduced_few}
 
@@ -58,17 +61,26 @@ module _ (n k : ℕ) (rows : List ℕ) (A : Accepted n k rows) where
           let (t, g, s) = (form.same_span (encode (reduced_rows n rows) v)).1 (v, f.message, refl) in
           record { met = (t, g, q ∙ s); weighs = ap weight q ∙ f.weighs; smallest = below }
 
-  pub code_walked : (w : Walk) → w.counts ≡ slots (weight_count n rows) → w.least ≡ least_of w.counts
-      → SmallestSum (reduced_rows n rows) w.least w.lightest → Walked rows (2 ^ length rows) w
-  code_walked w e l S = record { size = ap length e ∙ slots_long _; counts = at; least = l; lightest = held }
-    where
-      at : (j : ℕ) → j < 33 → get_or w.counts j 0 ≡ count (λ u. eqb (weight (encode rows u)) j) (2 ^ length rows)
-      at j h =
-          ap (λ (c : List ℕ). get_or c j 0) e ∙ slots_at (weight_count n rows) j h ∙ weight_count_messages n rows A.inside A.independent j
+  module _ (counts : List ℕ) (e : counts ≡ slots (weight_count n rows)) where
+    at : (j : ℕ) → j < 33 → get_or counts j 0 ≡ count (λ u. eqb (weight (encode rows u)) j) (2 ^ length rows)
+    at j h =
+        ap (λ (c : List ℕ). get_or c j 0) e ∙ slots_at (weight_count n rows) j h ∙ weight_count_messages n rows A.inside A.independent j
 
-      held : w.least < 33 → SmallestMet rows (2 ^ length rows) w.least w.lightest
-      held h =
-          let some = some_at w.counts (rw l at h) in
-          let (u, b, t) = count-found (λ u. eqb (weight (encode rows u)) w.least) (2 ^ length rows)
-          (omega (arith, at w.least h, ap (λ (x : ℕ). get_or w.counts x 0) l, some)) in
-          smallest_met w.least w.lightest u (omega (arith, l)) b (eqb-true (weight (encode rows u)) w.least t) S
+    -- the smallest sum of the least weight counted is the lightest codeword
+    held : (l x : ℕ) → l ≡ least_of counts → l < 33 → SmallestSum (reduced_rows n rows) l x → SmallestMet rows (2 ^ length rows) l x
+    held l x q h S =
+        let some = some_at counts (rw q at h) in
+        let (u, b, t) = count-found (λ u. eqb (weight (encode rows u)) l) (2 ^ length rows)
+        (omega (arith, at l h, ap (λ (x : ℕ). get_or counts x 0) q, some)) in
+        smallest_met l x u (omega (arith, q)) b (eqb-true (weight (encode rows u)) l t) S
+
+    pub code_walked : (o : Option ℕ) → o ≡ some_least counts → (r : Option Lightest) {Q : ℕ → Lightest → Type 0}
+        → MatchOption o (r ≡ None) (λ l. IsSomeAnd r (Q l)) → ((l : ℕ) (h : Lightest) → Q l h → (h.weight ≡ l) × SmallestSum (reduced_rows n rows) l h.word)
+        → Walked rows (2 ^ length rows) (record { counts = counts; lightest = r })
+    code_walked None q None c f = record { size = ap length e ∙ slots_long _; counts = at; least = q; lightest = tt }
+    code_walked None q (Some h) c f = absurd cc
+    code_walked (Some l) q None c f = absurd c
+    code_walked (Some l) q (Some h) c f =
+        let (w, S) = f l h c in
+        let (is, few) = some_least_is counts l q in
+        record { size = ap length e ∙ slots_long _; counts = at; least = ap Some w ∙ q; lightest = rw w (held l h.word is few S) }

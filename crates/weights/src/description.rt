@@ -22,22 +22,20 @@ pub fn describe(matrix: &Matrix) -> Result<Description, Refusal>
     ensures { DescriptionOf matrix.now.n matrix.now.k matrix.now.rows.now result }
 {
     let c = code_of(matrix)?;
-    let Walk {
-        counts,
-        least,
-        lightest,
-    } = walk_code(
+    let Walk { counts, lightest } = walk_code(
         matrix,
         &c.rows[..matrix.k as usize],
         &c.checks[..matrix.check_count()],
     );
+    // Some codeword of an accepted matrix is not 0.
+    let lightest = lightest.unwrap();
     Ok(Description {
         rows: c.rows,
         checks: c.checks,
         weights: Weights {
-            dmin: least,
+            dmin: lightest.weight,
             counts,
-            lightest,
+            lightest: lightest.word,
         },
     })
 }

@@ -9,7 +9,7 @@ ghost use Rattle.walk.specs.Walked.{Walked};
 ghost use Rattle.weights.specs.Inner.Overlap.{earlier, part_sum, slots, Small, ChecksOf, CodeParts};
 
 use distance::smallest_weighing;
-use walk::{Walk, least_of, walk_all};
+use walk::{Lightest, Walk, least_of, walk_all};
 use words::limits::WEIGHT_SLOTS;
 use words::shape::Matrix;
 
@@ -97,10 +97,9 @@ pub(crate) fn walk_code(matrix: &Matrix, reduced: &[u32], hs: &[u32]) -> Walk
         return walk_all(matrix.rows);
     }
     let counts = counts_by_checks(matrix.n, hs);
-    let least = least_of(&counts);
-    Walk {
-        counts,
-        least,
-        lightest: smallest_weighing(reduced, least),
-    }
+    let lightest = least_of(&counts).map(|weight| Lightest {
+        weight,
+        word: smallest_weighing(reduced, weight),
+    });
+    Walk { counts, lightest }
 }

@@ -2,7 +2,7 @@
 use Rattle.std.proofs.Common.{◌+◌, rules, arith, inl, inr}
 use Rattle.coding.specs.Word.{weight}
 use Rattle.distance.proofs.LeastSumLaws.{found_start, found_next, found_end}
-use Rattle.walk.proofs.WalkedLaws.{walked_all, least_is}
+use Rattle.walk.proofs.WalkedLaws.{walked_all, lightest_is}
 use Rattle.distance.proofs.distance.least_weight.Goals as goal
 
 pub loop-t-init : goal.loop-t-init
@@ -13,8 +13,10 @@ returns-then-best-t c = found_end c.args.rows.now c.loop-t.t c.loop-t.best c.req
 
 pub returns-then-rows-le-WALKED_ROWS : goal.returns-then-rows-le-WALKED_ROWS
 returns-then-rows-le-WALKED_ROWS c =
-    least_is c.requires.n c.requires.k _ c.requires.accepted c.walk_all-w.result
-    (walked_all (omega (arith, c.requires.accepted.range.rows, c.requires.accepted.count)) c.walk_all-w.ensures.walked)
+    let W = walked_all (omega (arith, c.requires.accepted.range.rows, c.requires.accepted.count)) c.walk_all.ensures in
+    let e = lightest_is c.requires.n c.requires.k c.args.rows.now c.requires.accepted c.walk_all.result W in
+    let found = rw e at c.map_or.ensures in
+    search rules
 
 pub loop-t-preserved : goal.loop-t-preserved
 loop-t-preserved c =

@@ -12,6 +12,7 @@ overflow_add-reached c = omega (arith, c.overlaps.ensures, overlaps-lt c.args.s 
 pub returns : goal.returns
 returns c =
     let s = c.args.s in
-    ap (λ (x : ℕ). count_trailing_zeros 64 (bit_and (c.overlaps.result + (0x5B5AD6B5AD6B5AD - weight s / 2 * 0x84210842108421)) x) / 5) high_lanes
+    rw c.from-half.ensures
+    (ap (λ (x : ℕ). count_trailing_zeros 64 (bit_and (c.overlaps.result + (0x5B5AD6B5AD6B5AD - weight s / 2 * 0x84210842108421)) x) / 5) high_lanes
     ∙ near_is s c.requires (c.overlaps.result + (0x5B5AD6B5AD6B5AD - weight s / 2 * 0x84210842108421))
-    (ap₂ ◌+◌ c.overlaps.ensures (ap₂ ◌-◌ row_lanes (ap (λ (x : ℕ). weight s / 2 * x) one-lanes)))
+    (ap₂ ◌+◌ c.overlaps.ensures (ap₂ ◌-◌ row_lanes (ap (λ (x : ℕ). weight s / 2 * x) one-lanes))))

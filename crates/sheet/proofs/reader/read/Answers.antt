@@ -1,6 +1,5 @@
 -- The answer is that of the fields left, after the last tag and with the contents so far.
 use Rattle.std.proofs.Common.{◌≡◌, Ok, arith, sym, ◌∙◌, lt-ltb}
-use Rattle.std.proofs.lemmas.Result.{err_from_is_err_and}
 use Rattle.sheet.specs.Field.{field_at}
 use Rattle.sheet.specs.Sheet.{sheet_of}
 use Rattle.sheet.proofs.FieldLaws.{Good, good, reads_start, reads_stop, reads_step, reads_end}
@@ -9,10 +8,10 @@ use Rattle.sheet.proofs.reader.read.Goals as goal
 use Rattle.sheet.proofs.reader.read.Goals.{After-from}
 
 -- the field that was read
-was : (c : After-from) → field_at c.args.bytes.now c.loop-at.at c.loop-at.last ≡ Ok c.in_ok-tag.field-0
-was c = sym c.field_at.ensures ∙ c.in_ok-tag.was
+was : (c : After-from) → field_at c.args.bytes.now c.loop-at.at c.loop-at.last ≡ Ok c.in-Ok.field-0
+was c = sym c.field_at-answer.ensures ∙ c.in-Ok.is
 
-is_good : (c : After-from) → Good c.args.bytes.now c.loop-at.at c.loop-at.last c.in_ok-tag.field-0
+is_good : (c : After-from) → Good c.args.bytes.now c.loop-at.at c.loop-at.last c.in-Ok.field-0
 is_good c = good _ _ _ _ c.loop-at.invariant.within (was c)
 
 pub returns-then-bytes-gt-MAX_SHEET : goal.returns-then-bytes-gt-MAX_SHEET
@@ -22,10 +21,8 @@ returns-then-bytes-gt-MAX_SHEET c = sheet_read c.args.bytes.now _ (simp (lt-ltb 
 pub loop-at-init : goal.loop-at-init
 loop-at-init c = reads_start _ (omega arith)
 
-pub returns-in_err-tag : goal.returns-in_err-tag
-returns-in_err-tag c =
-    let p = err_from_is_err_and c.from_residual.result c.from_residual.ensures.1 in
-    rw (p.1, p.2) (sheet_read _ _ (sym (reads_stop c.loop-at.invariant _ c.loop-at-test.true (sym c.field_at.ensures ∙ c.in_err-tag.was))))
+pub returns-in_default : goal.returns-in_default
+returns-in_default c = sheet_read _ _ (sym (reads_stop c.loop-at.invariant _ c.loop-at-test.true (sym c.field_at-answer.ensures ∙ c.unwrap_err.ensures)))
 
 pub bounds-contents-from : goal.bounds-contents-from
 bounds-contents-from c = omega (arith, (is_good c).known, c.from.ensures)

@@ -4,4 +4,4 @@ use Rattle.sheet.specs.Words.{words_at}
 use Rattle.sheet_run.proofs.load.load.Given as goal
 
 abbrev pub invariant-loop-i : goal.invariant-loop-i
-invariant-loop-i l = Over (words_at l.bytes l.from l.m) l.initial.word-items l.i l.word-items
+invariant-loop-i l = Over (words_at l.bytes l.span.at l.m) l.initial.words l.i l.words

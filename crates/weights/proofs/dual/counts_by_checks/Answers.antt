@@ -22,7 +22,7 @@ walk n hs w C found rows e =
 pub overlap_counts-o-requires : goal.overlap_counts-o-requires
 overlap_counts-o-requires c =
     let C = c.requires in
-    let W = walk _ _ _ C c.walk_all-walk.ensures.walked C.rows C.are in
+    let W = walk _ _ _ C c.walk_all-walk.ensures C.rows C.are in
     (C.accepted.range.places.1, walk_few _ C.k C.rows C.accepted c.walk_all-walk.result W)
 
 pub overflow_cast-hs : goal.overflow_cast-hs
@@ -34,13 +34,13 @@ quotients-requires-clause-low c = omega (arith, few c.requires)
 pub quotients-requires-clause-fits : goal.quotients-requires-clause-fits
 quotients-requires-clause-fits c =
     let C = c.requires in
-    let W = walk _ _ _ C c.walk_all-walk.ensures.walked C.rows C.are in
+    let W = walk _ _ _ C c.walk_all-walk.ensures C.rows C.are in
     rw C.are (quotient_fits _ C.k C.rows C.accepted c.walk_all-walk.result W c.overlap_counts-o.ensures.0 c.overlap_counts-o.ensures.1)
 
 pub returns : goal.returns
 returns c k rows A e =
     let even = c.overlap_counts-o.result.even in
     let odd = c.overlap_counts-o.result.odd in
-    let W = walk _ _ _ c.requires c.walk_all-walk.ensures.walked rows e in
+    let W = walk _ _ _ c.requires c.walk_all-walk.ensures rows e in
     c.quotients.ensures ∙ ap (λ (l : List ℕ). slots (λ j. (get_or even j 0 - get_or odd j 0) / 2 ^ length l)) e
     ∙ quotients_are _ k rows A c.walk_all-walk.result W c.overlap_counts-o.ensures.0 c.overlap_counts-o.ensures.1

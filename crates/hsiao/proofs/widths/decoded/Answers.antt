@@ -5,11 +5,11 @@ use Rattle.outcomes.specs.Outcome.{corrected}
 use Rattle.outcomes.specs.declared.ending.Outcome.{Outcome}
 use Rattle.hsiao.specs.declared.word.Word.{Word}
 use Rattle.hsiao.proofs.WidthAnswerLaws.{outcome_within, decode_is}
-use Rattle.hsiao.proofs.widths.decode.Goals as goal
+use Rattle.hsiao.proofs.widths.decoded.Goals as goal
 
 pub returns : goal.returns
-returns c =
+returns g c =
     let a = c.args in
     let d = sym c.in_ok-word_cause.ensures in
-    let o = c.outcome_at.ensures ∙ outcome_within a.width a.received d c.syndrome-s.result c.syndrome-s.ensures.sum in
-    decode_is a.width a.received _ (ap Ok (c.correction.ensures ∙ ap (λ (x : Outcome Word). corrected x a.received) o) ∙ ok_answered _ _ d)
+    let o = c.outcome_at.ensures ∙ outcome_within g.row.WIDTH a.received d c.syndrome-s.result c.syndrome-s.ensures.sum in
+    decode_is g.row.WIDTH a.received _ (ap Ok (c.correction.ensures ∙ ap (λ (x : Outcome Word). corrected x a.received) o) ∙ ok_answered _ _ d)
