@@ -27,7 +27,6 @@ use Rattle.std.specs.Option.{IsSomeAnd}
 use Rattle.distance.specs.Inner.LeastSum.{ReducedMatrix}
 use Rattle.distance.specs.SmallestSum.{FewWeigh, SmallestSum}
 use Rattle.weights.specs.Inner.Overlap.{slots}
-use Rattle.walk.specs.declared.walk.Walk.{Walk}
 use Rattle.walk.proofs.BlockLaws.{some_at, some_least_is}
 use Rattle.weights.proofs.WeightSlotLaws.{slots_long, slots_at}
 use Rattle.distance.proofs.LeastSumLaws.{reduced_matrix, reduced_few}
