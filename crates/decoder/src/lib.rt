@@ -3,4 +3,4 @@
 
 pub mod batch; // Decode over a batch of words
 
-pub use crate::batch::{decode, decode_measured};
+pub use crate::batch::{Lent, decode, decode_measured};

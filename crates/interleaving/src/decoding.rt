@@ -5,7 +5,7 @@ ghost use Rattle.interleaving.specs.Decoded.{DecodedInterleaved};
 use crate::causes::bits_cause;
 use crate::sorting::sort_words;
 use answers::Refusal;
-use decoder::batch::Lent;
+use decoder::Lent;
 use judging::{Batch, code_cause};
 use outcomes::Reading;
 use words::limits::{MAX_DEPTH, MAX_PLACES};

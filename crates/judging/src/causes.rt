@@ -9,7 +9,7 @@ ghost use Rattle.judging.specs.Known.{asked, KnownPast};
 
 use crate::matrix::{Known, known_past_4};
 use answers::Refusal;
-use distance::distance::{Distance, distance_of};
+use distance::{Distance, distance_of};
 use outcomes::Reading;
 use words::lists::list_cause;
 use words::shape::Matrix;

@@ -4,7 +4,7 @@ ghost use Rattle.words.specs.Widest.{EveryRow};
 ghost use Rattle.judging.specs.Known.{KnownPast};
 
 use answers::Refusal;
-use distance::distance::{Distance, distance_of};
+use distance::{Distance, distance_of};
 use parity::parity_checks;
 use words::limits::MAX_CHECKS;
 use words::shape::Matrix;

@@ -4,4 +4,4 @@
 pub mod build; // the words tried one after the other
 pub mod leaders; // the leaders by check rows, and of a matrix
 
-pub use crate::leaders::{fill_leaders, leaders_of};
+pub use crate::leaders::{Leaders, fill_leaders, leaders_of};

@@ -52,9 +52,6 @@ module _ {rows table messages : List ℕ} {i : ℕ} where
     shape : ByPlace 32 table
     shape = table_shape 32 rows C.before.fits i C.more table C.before.table_is
 
-    pub sizes : (length table ≡ 32) × (length messages ≡ 32)
-    sizes = (shape.size, C.before.traced.size ∙ shape.size)
-
     pub clear_step : {y z : ℕ} → p ≢ 32 → y ≡ sel (bit x p) (get_or table p 0) → z ≡ sel (bit x p) (get_or messages p 0)
         → Clearing rows table messages i (p + 1) (x ⊕ y) (m ⊕ z)
     clear_step n d e =

@@ -24,7 +24,7 @@ pub(crate) struct Elimination {
 
 // Adds x to the entries beside the rows that have a one at place q, and puts x at q.
 fn put(rows: &[u32; WIDTH], entries: &mut [u32; WIDTH], q: usize, x: u32)
-    requires { (q < width) × (length rows.now ≡ width) × (length entries.old ≡ width) }
+    requires { q < width }
     ensures { entries.new ≡ set (wipes q rows.now entries.old x) q x }
 {
     for (p, entry) in entries.iter_mut().enumerate() {

@@ -6,7 +6,7 @@ ghost use Rattle.interleaving.specs.Deinterleaved.{Deinterleaved};
 ghost use Rattle.interleaving.specs.Decoded.{DecodedInterleaved};
 ghost use Rattle.telling.specs.Told.{Told};
 
-use decoder::batch::Lent;
+use decoder::Lent;
 use interleaving::{decode, deinterleave, interleave};
 use telling::tell;
 use words::shape::Matrix;

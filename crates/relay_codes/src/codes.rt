@@ -12,16 +12,12 @@ ghost use Rattle.decoder.specs.Decoded.{Decoded};
 ghost use Rattle.telling.specs.Reading.{reading_of};
 ghost use Rattle.telling.specs.Told.{Told, Wrote};
 
-use decoder::batch::Lent;
-use decoder::decode;
+use decoder::{Lent, decode};
 use encoder::{encode, message};
 use judging::Batch;
-use leaders::leaders::Leaders;
-use leaders::leaders_of;
+use leaders::{Leaders, leaders_of};
 use telling::{reading_of, tell};
-use weights::describe;
-use weights::description::Description;
-use weights::weights::Weights;
+use weights::{Description, Weights, describe};
 use words::limits::{MAX_CHECKS, MAX_ROWS, WEIGHT_SLOTS};
 use words::shape::Matrix;
 

@@ -6,7 +6,7 @@ ghost use Rattle.sheet_run.specs.Run.{Ran};
 ghost use Rattle.lines.specs.Put.{max_output, Put};
 
 use crate::load::load;
-use decoder::batch::{Lent, decode_measured};
+use decoder::{Lent, decode_measured};
 use judging::Batch;
 use lines::{MAX_OUTPUT, put_batch, put_refusal};
 use sheet::{Sheet, read};

@@ -22,28 +22,6 @@ pub fn row_sum(rows: &[u32], message: u32) -> u32
     sum
 }
 
-// The row sum of each word, one after the other.
-fn sums_one_by_one(rows: &[u32], words: &[u32], sums: &mut [u32])
-    requires { length words.now ≡ length sums.old }
-    ensures { sums.new ≡ map (encode rows.now) words.now }
-{
-    for (i, sum) in sums.iter_mut().enumerate() {
-        *sum = row_sum(rows, words[i]);
-    }
-}
-
-// The row sum of each word, by tables where these are worth their making.
-fn sums_of(rows: &[u32], words: &[u32], sums: &mut [u32])
-    requires { length words.now ≡ length sums.old }
-    ensures { sums.new ≡ map (encode rows.now) words.now }
-{
-    if MANY <= words.len() && rows.len() <= WIDTH {
-        sums_by_tables(rows, words, sums);
-    } else {
-        sums_one_by_one(rows, words, sums);
-    }
-}
-
 // Slot i becomes the row sum of word i, as far as there are slots; the later ones keep their values.
 pub fn row_sums(rows: &[u32], words: &[u32], out: &mut [u32])
     ensures { out.new
@@ -51,5 +29,11 @@ pub fn row_sums(rows: &[u32], words: &[u32], out: &mut [u32])
         ++ drop (length words.now) out.old }
 {
     let m = words.len().min(out.len());
-    sums_of(rows, &words[..m], &mut out[..m]);
+    if MANY <= m && rows.len() <= WIDTH {
+        sums_by_tables(rows, &words[..m], &mut out[..m]);
+        return;
+    }
+    for (i, &word) in words[..m].iter().enumerate() {
+        out[i] = row_sum(rows, word);
+    }
 }

@@ -31,6 +31,7 @@ pub fn fill_sums(rows: &[u32], table: &mut [u32])
     table[0] = 0;
     let mut half = 1;
     let mut left = rows.iter();
+    // The filled part doubles, which no range or list has as its steps.
     while half < table.len() {
         let count = half.min(table.len() - half);
         let row = left.next().copied().unwrap_or(0);
@@ -41,7 +42,7 @@ pub fn fill_sums(rows: &[u32], table: &mut [u32])
 
 // To each sum is added the entry for eight places of its word, from `place` on.
 fn add_from(table: &[u32; TABLE], place: usize, words: &[u32], sums: &mut [u32])
-    requires { (length table.now ≡ 256) × (place < width) × (length words.now ≡ length sums.old) }
+    requires { (place < width) × (length words.now ≡ length sums.old) }
     ensures { sums.new
         ≡ tabulate (λ v. get_or sums.old v 0 ⊕ get_or table.now (get_or words.now v 0 / 2 ^ place % 256) 0)
         (length sums.old) }

@@ -3,7 +3,7 @@
 use crate::lent::{ENTRIES, UNUSED, UNUSED_COUNT, UNUSED_ENTRY};
 use crate::print::item;
 use crate::records::{Record, SLOTS, list, number, start};
-use decoder::batch::Lent;
+use decoder::Lent;
 use interleaving::{decode, interleave};
 use words::shape::Matrix;
 use words::word::place;

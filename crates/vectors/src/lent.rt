@@ -2,7 +2,7 @@
 use crate::print::{answer, list};
 use crate::records::{Entry, SLOTS, lent};
 use answers::Refusal;
-use decoder::batch::Lent;
+use decoder::Lent;
 
 // The most entries of a working list.
 pub(crate) const ENTRIES: usize = 4200;

@@ -2,14 +2,11 @@
 use crate::lent::{ENTRIES, UNUSED_ENTRY};
 use crate::print::{answer, item, items, list};
 use crate::records::{Record, lent};
-use leaders::leaders::Leaders;
-use leaders::leaders_of;
+use leaders::{Leaders, leaders_of};
 use linear::{accept, reduced_rows};
 use parity::{parity_checks, syndrome};
 use sums::row_sum;
-use weights::description::Description;
-use weights::weights::Weights;
-use weights::{describe, weights_of};
+use weights::{Description, Weights, describe, weights_of};
 use words::limits::{MAX_CHECKS, MAX_ROWS, WEIGHT_SLOTS};
 
 // The reduced rows, after the answer.

@@ -29,16 +29,6 @@ pub struct Walk {
     pub lightest: Option<Lightest>,
 }
 
-// The weights of the block's codewords, each with base added.
-fn weigh(block: &[u32], base: u32, weights: &mut [u32])
-    requires { length weights.old ≡ length block.now }
-    ensures { weights.new ≡ map (λ b. distance b base) block.now }
-{
-    for (j, weight) in weights.iter_mut().enumerate() {
-        *weight = distance(block[j], base);
-    }
-}
-
 // Slot j becomes the weight of the block's codeword j with base added, as far as there are slots; the later ones keep their values.
 pub fn block_weights(block: &[u32], base: u32, weights: &mut [u32])
     ensures { weights.new
@@ -46,12 +36,13 @@ pub fn block_weights(block: &[u32], base: u32, weights: &mut [u32])
         ++ drop (length block.now) weights.old }
 {
     let m = block.len().min(weights.len());
-    weigh(&block[..m], base, &mut weights[..m]);
+    for (j, &word) in block[..m].iter().enumerate() {
+        weights[j] = distance(word, base);
+    }
 }
 
 // Counts each weight once more for each word that has it.
 fn tally(weights: &[u32], counts: &mut [u32; WEIGHT_SLOTS])
-    requires counts_len { length counts.old ≡ weight_slots }
     requires light { (i : ℕ) → i < length weights.now → get_or weights.now i 0 < weight_slots }
     requires room { (j : ℕ) → get_or counts.old j 0 + length weights.now < 2 ^ 32 }
     ensures { Tallied weights.now counts.old counts.new }

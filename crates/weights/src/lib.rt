@@ -5,5 +5,5 @@ pub mod description; // Describe
 pub mod dual; // the weight counts by way of the check rows
 pub mod weights; // weight counts, minimum distance and lightest codeword of an accepted matrix
 
-pub use crate::description::describe;
-pub use crate::weights::weights_of;
+pub use crate::description::{Description, describe};
+pub use crate::weights::{Weights, weights_of};

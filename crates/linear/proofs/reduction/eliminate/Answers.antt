@@ -1,7 +1,7 @@
 -- After i rows the table is their reduced form with its messages; within a row, x is cleared at the pivots before p and has the message m.
 use Rattle.std.proofs.Common.{refl, arith}
 use Rattle.coding.proofs.MachineLaws.{shl_one}
-use Rattle.linear.proofs.RowClearLaws.{reduced_start, sizes, clear_start, clear_step, clear_none, clear_place, clear_put}
+use Rattle.linear.proofs.RowClearLaws.{reduced_start, clear_start, clear_step, clear_none, clear_place, clear_put}
 use Rattle.linear.proofs.reduction.eliminate.Goals as goal
 
 pub rows-init : goal.rows-init
@@ -20,12 +20,12 @@ loop-p-preserved c =
 pub put-requires : goal.put-requires
 put-requires c =
     let (C, some) = c.loop-p.invariant in
-    (clear_place C (omega arith) (some (omega arith)), (sizes C).0, (sizes C).0)
+    clear_place C (omega arith) (some (omega arith))
 
 pub put-requires-in-rows : goal.put-requires-in-rows
 put-requires-in-rows c =
     let (C, some) = c.loop-p.invariant in
-    (clear_place C (omega arith) (some (omega arith)), (sizes C).0, (sizes C).1)
+    clear_place C (omega arith) (some (omega arith))
 
 pub rows-preserved : goal.rows-preserved
 rows-preserved c =

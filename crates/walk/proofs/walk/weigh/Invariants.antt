@@ -1,8 +1,0 @@
--- The first j entries are the weights of the first j words.
-use Rattle.std.proofs.Common.{map}
-use Rattle.coding.specs.Word.{distance}
-use Rattle.coding.proofs.LoopLaws.{Over}
-use Rattle.walk.proofs.walk.weigh.Given as goal
-
-abbrev pub invariant-loop-j : goal.invariant-loop-j
-invariant-loop-j l = Over (map (λ b. distance b l.base) l.block) l.initial.weights l.j l.weights
