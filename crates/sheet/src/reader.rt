@@ -58,6 +58,7 @@ pub fn read(bytes: &[u8]) -> Result<Sheet, Fault>
     let mut contents = [None; TAGS];
     let mut at: usize = 0;
     let mut last: u8 = 0;
+    // Each field says where the next begins: no walk over a range.
     while at < bytes.len() {
         let answer = field_at(bytes, at, last);
         let Ok(Field { tag, content, next }) = answer else {

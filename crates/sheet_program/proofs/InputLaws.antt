@@ -1,4 +1,4 @@
--- Laws of the bytes that are read: one more than a sheet may have decide the output. Assumes nothing.
+-- Laws of the bytes that are read: one more than a sheet may have decide the output.
 use mathlib.Core.Path.{◌≡◌, refl, sym, ap, ◌∙◌}
 use mathlib.Core.List.{List}
 use Prim.Native.Nat.{ℕ, ◌≤◌, ◌<◌}

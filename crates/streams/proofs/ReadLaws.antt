@@ -1,4 +1,4 @@
--- Laws of bytes that are read after others. Assumes nothing.
+-- Laws of bytes that are read after others.
 use Rattle.std.proofs.Common.{◌≡◌, ℕ, ◌+◌, ◌≤◌, List, ◌++◌, length, take, Option, Some, None, refl, arith, sym, ap, ◌∙◌, append_assoc, length-take-le}
 use Rattle.std.proofs.lemmas.Slice.{take-put_mid}
 use lib.Seq.{take-take}
