@@ -21,7 +21,8 @@ pub(crate) fn length_cause(n: u32, depth: usize, length: usize) -> Result<(), Re
     Ok(())
 }
 
-// Whether no byte is above 1; the bytes are joined, so that no test is made for each.
+// Whether no byte is above 1; the bytes are joined, so that no test is made for each. One function for these and for the words of
+// `words::shape` would need a trait with the laws of `|` in place of two lines.
 fn only_bits(bits: &[u8]) -> bool
     ensures { result ≡ only_bits bits.now }
 {
