@@ -83,7 +83,7 @@ enum {
  * which is the same for every matrix of the code. On a refusal all of them become 0.
  * Time: 0.3 us with a (7,4) code, 5 us with random (23,12) rows, 6 to 12 us with random (28,16) or (32,20) rows, more where the minimum
  * distance is large: 69 us with (32,20) rows of minimum distance 6, the slowest found (AMD EPYC, 2.6 GHz).
- * Stack: about 5 kB. */
+ * Stack: about 6 kB. */
 uint32_t relay_describe(uint32_t n, uint32_t k, const uint32_t *rows, size_t rows_len,
                         uint32_t reduced[RELAY_MAX_ROWS], uint32_t checks[RELAY_MAX_CHECKS], uint32_t weight_counts[RELAY_WEIGHTS],
                         uint32_t *dmin, uint32_t *lightest, size_t *value);
@@ -110,7 +110,7 @@ uint32_t relay_encode(uint32_t n, uint32_t k, const uint32_t *rows, size_t rows_
 /* The messages of codewords. Causes 1 to 4, 6 to 8 and 10. One word that is no codeword refuses the whole list under 10: after
  * relay_decode within a radius, leave out the words whose count is RELAY_FAR first.
  * Written: slot i of `out` becomes the message of codeword i; later slots keep their values.
- * Stack: about 5 kB. */
+ * Stack: about 6 kB. */
 uint32_t relay_message(uint32_t n, uint32_t k, const uint32_t *rows, size_t rows_len,
                        const uint32_t *words, size_t words_len,
                        uint32_t *out, size_t out_len, size_t *value);
@@ -154,7 +154,7 @@ uint32_t relay_deinterleave(uint32_t n, uint32_t k, const uint32_t *rows, size_t
  * Written: the three lists, as by relay_decode of these words. Where codewords were sent and the changed bits fit in depth * radius
  * consecutive places of the list, wherever these begin, every word comes back.
  * Time: as relay_decode.
- * Stack: about 5 kB. */
+ * Stack: about 7 kB. */
 uint32_t relay_decode_interleaved(uint32_t n, uint32_t k, const uint32_t *rows, size_t rows_len,
                                   uint32_t radius, size_t depth, const uint8_t *bits, size_t bits_len,
                                   uint32_t *out, size_t out_len, uint8_t *counts, size_t counts_len,

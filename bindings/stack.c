@@ -172,14 +172,14 @@ static const struct {
     void (*call)(void);
 } calls[] = {
     {"relay_version", 1, version},
-    {"relay_describe", 5, describe},
+    {"relay_describe", 6, describe},
     {"relay_leaders", 3, leaders},
     {"relay_encode", 2, encode},
-    {"relay_message", 5, message},
+    {"relay_message", 6, message},
     {"relay_decode", 5, decode},
     {"relay_interleave", 2, interleave},
     {"relay_deinterleave", 2, deinterleave},
-    {"relay_decode_interleaved", 5, decode_interleaved},
+    {"relay_decode_interleaved", 7, decode_interleaved},
     {"relay_golay_encode", 1, golay_encode},
     {"relay_golay_decode", 1, golay_decode},
     {"relay_golay_message", 1, golay_message},
