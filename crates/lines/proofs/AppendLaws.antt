@@ -1,7 +1,7 @@
 -- Laws of bytes put into a list: more of them behind, no byte, and printing them or nothing.
 use mathlib.Core.Path.{◌≡◌, refl, sym, ap, ap₂, ◌∙◌}
 use mathlib.Core.List.{List, [], ◌∷◌, ◌++◌, append_assoc, append-nil}
-use Rattle.std.specs.Prelude.{Option, Some, None}
+use Rattle.std.specs.Prelude.{Option, Some}
 use Prim.Native.Nat.{ℕ, ◌+◌, ◌-◌, ◌≤◌}
 use native.Mathlib.Nat.{add-zero, zero-add}
 use native.Mathlib.Omega.{arith}
@@ -88,9 +88,6 @@ appends_none before at h = record {
 
 pub put_all : {can : Type 0} {before bytes after : List ℕ} {m : ℕ} → can → Appends before 0 bytes after m → Put can before bytes after (Some m)
 put_all c A = record { puts = λ _. (_, refl, A); keeps = λ n. absurd (n c) }
-
-pub put-not : {can : Type 0} {before bytes : List ℕ} → (can → ⊥) → Put can before bytes before None
-put-not n = record { puts = λ c. absurd (n c); keeps = λ _. (refl, refl) }
 
 module _ {can : Type 0} {before bytes after : List ℕ} {r : Option ℕ} (P : Put can before bytes after r) where
   -- the bytes by another name

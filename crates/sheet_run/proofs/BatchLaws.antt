@@ -7,7 +7,7 @@ use Prim.Native.Nat.{ℕ, ◌^◌, ◌≤◌, ◌<◌}
 use native.Mathlib.Decide.{ℕ_discrete}
 use native.Mathlib.Omega.{arith}
 use borrow.Author.Tests.{eq-eqb, ne_eqb}
-use lib.ListN.{length, take, length-map, length-take, length-replicate}
+use lib.ListN.{length, take, length-map, length-replicate}
 use lib.Seq.{take_at}
 use Rattle.coding.specs.Lists.{zeros}
 use Rattle.coding.specs.Word.{weight}
@@ -102,12 +102,6 @@ module _ {B : Batch} {r : Answer} {after : Lent}
 
     pub counts-length : length (take (length B.words) after.counts) ≡ length B.words
     counts-length = ap length counts_are ∙ length-map B.words (count_of B.n B.rows B.reading)
-
-    pub codewords_room : length B.words ≤ length after.codewords
-    codewords_room = omega (arith, codewords_length, length-take (length B.words) after.codewords)
-
-    pub counts_room : length B.words ≤ length after.counts
-    counts_room = omega (arith, counts-length, length-take (length B.words) after.counts)
 
     lines_are : slot_lines B.n (take (length B.words) after.codewords) (take (length B.words) after.counts)
         ≡ word_lines B.n (decoded_as B.n B.rows B.reading) B.words

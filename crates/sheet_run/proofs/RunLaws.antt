@@ -1,15 +1,13 @@
 -- Laws of the run: what a writer from the first slot on leaves.
-use mathlib.Core.Path.{◌≡◌, refl, ap, ◌∙◌}
+use mathlib.Core.Path.{◌≡◌, ap, ◌∙◌}
 use mathlib.Core.List.{List, ◌++◌}
-use mathlib.Core.Bool.{Bool, true, false, cond}
 use Rattle.std.specs.Prelude.{Option, Result}
 use Rattle.std.specs.Option.{unwrap_or}
 use Prim.Native.Nat.{ℕ, ◌^◌, ◌≤◌, ◌<◌}
 use native.Mathlib.Nat.{zero-add}
 use native.Mathlib.Omega.{arith}
-use borrow.Author.Tests.{le-leb, lt-leb}
-use lib.Dec.{leb}
-use lib.ListN.{length, get_or, take, drop, length-append}
+use borrow.Author.Tests.{le-leb}
+use lib.ListN.{length, get_or, take, drop}
 use lib.Seq.{take_at}
 use Rattle.lines.specs.Appended.{Appends}
 use Rattle.sheet.specs.Sheet.{sheet_of}
@@ -20,14 +18,6 @@ use Rattle.sheet.specs.declared.answer.Fault.{Fault}
 use Rattle.sheet.specs.declared.answer.Sheet.{Sheet}
 use Rattle.sheet_run.proofs.RefusalMeaning.{every_word-shown}
 use Rattle.sheet_run.proofs.ClosingMeaning.{output_closed}
-
--- r counts slots of the list
-pub ran_fits : {sheet before after : List ℕ} {r : ℕ} → Ran sheet before r after → r ≤ length after
-ran_fits {sheet} {before} {after} {r} R = go (leb max_output (length before)) R.count R.list
-  where
-    go : (b : Bool) → r ≡ cond b (length (output_of sheet)) 0 → after ≡ cond b (output_of sheet ++ drop (length (output_of sheet)) before) before → r ≤ length after
-    go true c l = omega (arith, c, ap length l ∙ length-append (output_of sheet) (drop (length (output_of sheet)) before))
-    go false c l = omega (arith, c)
 
 module _ (sheet before : List ℕ) where
   -- the first slots are the output
@@ -51,8 +41,3 @@ module _ (sheet before : List ℕ) where
   pub ran_put : ((i : ℕ) → get_or sheet i 0 < 2 ^ 8) → {a : Result Sheet Fault} {r : Option ℕ} {after : List ℕ} → max_output ≤ length before
       → a ≡ sheet_of sheet → Put (max_output ≤ length before) before (printed sheet a) after r → Ran sheet before (unwrap_or r 0) after
   ran_put f h e P = let (m, some, A) = P.puts h in rw some (ran f h e A)
-
-  pub ran-not : length before < max_output → Ran sheet before 0 before
-  ran-not h =
-      let l = lt-leb max_output (length before) h in
-      record { count = rw l refl; list = rw l refl; closing = λ m. absurd (omega arith); every_word = λ m. absurd (omega arith) }

@@ -154,9 +154,6 @@ pub record Counting (counts : List ℕ) (i clean far places : ℕ) : Type 0 wher
   pub fars : far ≡ sum_to far_in counts i
   pub sum : places ≡ sum_to places_in counts i
 
-pub counting_start : (counts : List ℕ) → Counting counts 0 0 0 0
-counting_start counts = record { within = omega arith; cleans = refl; fars = refl; sum = refl }
-
 module _ {counts : List ℕ} {i clean far places : ℕ} (C : Counting counts i clean far places) where
   pub counting_step : (more : ℕ) → i < length counts → more ≡ places_in (slot_outcome (get_or counts i 0))
       → Counting counts (i + 1) (clean + bool_byte (eqb (get_or counts i 0) 0)) (far + bool_byte (eqb (get_or counts i 0) 255)) (places + more)
