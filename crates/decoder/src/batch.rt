@@ -77,7 +77,8 @@ fn answer_words(batch: &Batch, leaders: &[u32], out: &mut [u32], counts: &mut [u
 }
 
 // Each word is decoded with the leader of its syndrome by the first c check rows; the later slots keep their values. The syndromes stand in
-// the list of the codewords first.
+// the list of the codewords first. c stands beside the array as in `parity::syndromes`; the lists are no `Lent`, since the third is read
+// while these two are written.
 fn decode_words(
     batch: &Batch,
     checks: &[u32; MAX_CHECKS],

@@ -23,7 +23,7 @@ pub fn smallest_weighing(rows: &[u32], w: u32) -> u32
     ensures { SmallestSum rows.now w result }
 {
     let keep = move |best: u32, word: u32| smaller(best, word, w);
-    // No word is larger.
+    // No word is larger. A number, as `SmallestSum` says: with an Option each sum would be tested for it.
     let mut best = u32::MAX;
     for t in 1..=rows.len().min(w as usize) {
         best = least_sum(rows, t, 0, &keep, best);

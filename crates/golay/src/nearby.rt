@@ -32,7 +32,7 @@ const ROW_LANES: u64 = 0x5B5AD6B5AD6B5AD;
 // The highest bit of each lane.
 const HIGH_LANES: u64 = 0x842108421084210;
 
-// In lane i, the number of places that s and row i have in common.
+// In lane i, the number of places that s and row i have in common. No `row_sum`: the lanes are added, not summed modulo 2.
 fn overlaps(s: u32) -> u64
     requires { s < 2 ^ 12 }
     ensures { result ≡ lanes (λ p. weight (bit_and s p)) golay_checks }
@@ -46,7 +46,8 @@ fn overlaps(s: u32) -> u64
     sum
 }
 
-// The first row within distance 2 of s, or 12 where there is none: lane i reaches 16 exactly there.
+// The first row within distance 2 of s, or 12 where there is none: lane i reaches 16 exactly there. 12 is what the count of zeros gives
+// without a test; the Option comes where the row is read.
 pub(crate) fn near_row(s: u32) -> u32
     requires { s < 2 ^ 12 }
     ensures { result ≡ first (λ i. leb (weight (s ⊕ get_or golay_checks i 0)) 2) 12 }

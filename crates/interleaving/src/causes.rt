@@ -29,7 +29,7 @@ fn only_bits(bits: &[u8]) -> bool
     bits.iter().fold(0, |all, b| all | b) < 2
 }
 
-// Causes 16 and 17 of received bits.
+// Causes 16 and 17 of received bits. The depth is given beside them, since cause 17 holds it against their number.
 pub(crate) fn bits_cause(n: u32, depth: usize, bits: &[u8]) -> Result<(), Refusal>
     ensures { result ≡ bits_answer n depth bits.now }
 {

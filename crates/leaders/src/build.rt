@@ -11,7 +11,7 @@ ghost use Rattle.leaders.specs.Inner.Built.{TryingIn, TriedIn};
 use parity::columns;
 use words::limits::{MAX_CHECKS, WIDTH};
 
-// The entry of a syndrome that has no leader yet.
+// The entry of a syndrome that has no leader yet: in the list, which C lends, an entry is a number and no Option.
 const BLANK: u32 = u32::MAX;
 
 // The list that is filled, the columns of the check rows, and how many entries are blank.

@@ -9,7 +9,7 @@ use words::limits::{MAX_CHECKS, WIDTH};
 use words::shape::Matrix;
 
 // The first 2^c entries become the leaders of words of n places by the first c check rows. Answers how many words were tried, or nothing where
-// there is no room, and the list is as it was.
+// there is no room, and the list is as it was. c stands beside the array as in `parity::syndromes`.
 pub fn fill_leaders(checks: &[u32; MAX_CHECKS], n: u32, c: u32, list: &mut [u32]) -> Option<u32>
     ensures { LeadersBy checks.now n c list.old result list.new }
 {

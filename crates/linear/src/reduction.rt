@@ -14,7 +14,8 @@ use words::limits::{MAX_ROWS, WIDTH};
 use words::shape::Matrix;
 use words::word::selected;
 
-// Reduced rows listed by place: entry p is the row whose pivot is p, or 0. Beside each stands a message that has it as its codeword.
+// Reduced rows listed by place: entry p is the row whose pivot is p, or 0. Beside each stands a message that has it as its codeword; these are
+// two lists, since callers take each as a list of words.
 #[derive(Drop)]
 pub(crate) struct Elimination {
     pub(crate) rank: usize,

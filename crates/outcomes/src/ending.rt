@@ -4,7 +4,7 @@ ghost use Rattle.outcomes.specs.Outcome.{outcome_of, word_in, count_in, correcte
 
 use words::word::{sum, weight};
 
-// How a batch is read: complete decoding, or bounded-distance decoding within a radius.
+// How a batch is read: complete decoding, or bounded-distance decoding within a radius. An enum and no Option, as document 01 names the form.
 #[derive(Clone, Copy)]
 pub enum Reading {
     Nearest,

@@ -46,6 +46,7 @@ fn single_places() -> [u32; WIDTH]
 }
 
 // The columns of the first c check rows, of n places: entry p is the syndrome by these of the word with a one at place p alone.
+// c stands beside the array for the reason of `syndromes`.
 pub fn columns(checks: &[u32; MAX_CHECKS], n: usize, c: usize) -> [u32; WIDTH]
     ensures { result ≡ columns_of n (take c checks.now) }
 {

@@ -46,7 +46,8 @@ fn words_content(from: usize, size: usize) -> Option<Content>
     }))
 }
 
-// The content of so many bytes, by its tag; none where they are not that many.
+// The content of so many bytes, by its tag; none where they are not that many. A tag stays a number, by which `sheet_in` has the contents, and
+// the bytes stay positions, which a span keeps.
 #[tactic(auto, unfolding(crate::specs::Field::content_of))]
 fn content_of(bytes: &[u8], tag: u8, from: usize, size: usize) -> Option<Content>
     requires { from + size ≤ length bytes.now }

@@ -11,7 +11,7 @@ const TABLE_ROWS: usize = 8;
 
 const TABLE: usize = 256;
 
-// So many entries from half on become those from 0 on, each with the row added.
+// So many entries from half on become those from 0 on, each with the row added. By index, since one list is read and written.
 fn double(table: &mut [u32], half: usize, count: usize, row: u32)
     requires { (count ≤ half) × (half + count ≤ length table.old) }
     ensures { Doubled table.old half count row table.new }

@@ -6,7 +6,7 @@ ghost use Rattle.tally.specs.Slots.{slot_outcome, slot_tally};
 
 use words::limits::MAX_WORDS;
 
-// The count of a far word.
+// The count of a far word: in the list of counts, which C lends, an entry is a byte and no Option.
 pub const FAR: u8 = 255;
 
 // How many words ended clean, mended and far, and how many places were mended.

@@ -44,7 +44,8 @@ pub fn first_outside(words: &[u32], n: u32) -> Option<usize>
     words.iter().position(|w| !fits(*w, n))
 }
 
-// Causes 1 to 3 of these numbers and rows. Every row is a number of 32 bits.
+// Causes 1 to 3 of these numbers and rows. Every row is a number of 32 bits, which a proof knows of a slice and not of one in a struct: so the
+// rows stand alone.
 fn shape_cause(n: u32, k: u32, rows: &[u32]) -> Result<(), Refusal>
     ensures answer { result ≡ shape_answer n k rows.now }
     ensures words { Inside width rows.now }
