@@ -50,7 +50,7 @@ fn look_up(leaders: &[u32], list: &mut [u32])
     }
 }
 
-// Each leader becomes the codeword of the word beside it, and its count is written.
+// Each leader becomes the codeword of the word beside it, and its count is written: two parts of lists, cut to the words, and no `Lent`.
 // By index: after an adapter of `iter_mut`, as a zip of the two lists, a proof knows nothing of what they hold.
 fn correct(batch: &Batch, out: &mut [u32], counts: &mut [u8])
     requires { (length out.old ≡ length batch.now.words.now) × (length counts.old ≡ length batch.now.words.now) }
@@ -77,8 +77,8 @@ fn answer_words(batch: &Batch, leaders: &[u32], out: &mut [u32], counts: &mut [u
 }
 
 // Each word is decoded with the leader of its syndrome by the first c check rows; the later slots keep their values. The syndromes stand in
-// the list of the codewords first. c stands beside the array as in `parity::syndromes`; the lists are no `Lent`, since the third is read
-// while these two are written.
+// the list of the codewords first. c stands beside the array as in `parity::syndromes`; with a `Lent` the
+// clauses would say besides that the third list stays as it is.
 fn decode_words(
     batch: &Batch,
     checks: &[u32; MAX_CHECKS],

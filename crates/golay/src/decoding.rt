@@ -12,6 +12,7 @@ use words::word::{fits, sum, weight};
 
 pub const RADIUS: u32 = 3;
 
+// A syndrome has twelve places: a type for that would be made and taken apart around each of these four calls.
 // An error pattern with the syndrome s, at most three places and at most one of them among the message places. A call of it would cost a
 // third of the decode.
 #[inline(always)]

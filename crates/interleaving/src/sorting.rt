@@ -16,7 +16,7 @@ use words::shape::Matrix;
 fn with_lowest(w: u32, bit: u8) -> u32
     ensures { result ≡ (w * 2 ^ 1) % 2 ^ 32 ⊕ bit }
 {
-    (w << 1) ^ bit as u32
+    (w << 1) ^ u32::from(bit)
 }
 
 // Word i, its places read from the highest to the lowest, two a turn. A `for` over the places, or over pairs of
@@ -38,7 +38,7 @@ fn sorted_word(bits: &[u8], depth: usize, n: u32, i: usize) -> u32
     w
 }
 
-// Slot i becomes word i; the later slots keep their values.
+// Slot i becomes word i; the later slots keep their values. The depth is known of the bits, so that nothing is tested here.
 pub(crate) fn sort_words(bits: &[u8], depth: usize, n: u32, out: &mut [u32])
     requires { (length bits.now ≡ depth * n) × Inside 1 bits.now × (n ≤ width) × (depth ≤ length out.old) × (depth ≤ max_depth) }
     ensures { out.new ≡ sorted_words n depth bits.now ++ drop depth out.old }

@@ -80,7 +80,8 @@ impl Filling<'_> {
     }
 }
 
-// The list of the leaders: the words of n places and weight up to c are tried until no entry is blank. Answers how many were.
+// The list of the leaders: the words of n places and weight up to c are tried until no entry is blank. Answers how many were. n and c are what
+// the columns, which have an entry for each place of a machine word, do not tell.
 fn fill_list(list: &mut [u32], cols: [u32; WIDTH], n: usize, c: usize) -> u32
     requires cols_len { (length cols ≡ width) × (n ≤ width) × (c < width) × (0 < length list.old) × (length list.old < 2 ^ 32) }
     requires by_index { (w : ℕ) → encode cols w < length list.old }

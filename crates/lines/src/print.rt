@@ -162,7 +162,7 @@ impl Writer<'_> {
         } else if count == FAR {
             self.put_text(b"far");
         } else {
-            self.put_decimal(count as usize);
+            self.put_decimal(usize::from(count));
         }
     }
 

@@ -38,7 +38,7 @@ impl<W: Copy> Outcome<W> {
         }
     }
 
-    // The count of an outcome; 255 means far.
+    // The count of an outcome; 255 means far, as the lent list of counts, which is C's, has it.
     pub fn count(self) -> u8
         ensures { result ≡ count_in self }
     {

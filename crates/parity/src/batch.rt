@@ -10,6 +10,7 @@ use words::limits::MAX_CHECKS;
 use words::word::parity;
 
 // Each list entry is moved up by one place, and the parity of its word by the check row is its place 0.
+// By index: after a zip with `iter_mut` a proof knows nothing of the elements.
 fn join_row(row: u32, words: &[u32], list: &mut [u32])
     requires { length words.now ≡ length list.old }
     ensures { list.new ≡ tabulate (joined_by row words.now list.old) (length list.old) }

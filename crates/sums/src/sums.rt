@@ -23,6 +23,7 @@ pub fn row_sum(rows: &[u32], message: u32) -> u32
 }
 
 // Slot i becomes the row sum of word i, as far as there are slots; the later ones keep their values.
+// By index: after a zip with `iter_mut` a proof knows nothing of the elements.
 pub fn row_sums(rows: &[u32], words: &[u32], out: &mut [u32])
     ensures { out.new
         ≡ map (encode rows.now) (take (length out.old) words.now)

@@ -41,6 +41,7 @@ pub fn fill_sums(rows: &[u32], table: &mut [u32])
 }
 
 // To each sum is added the entry for eight places of its word, from `place` on.
+// By index: after a zip with `iter_mut` a proof knows nothing of the elements.
 fn add_from(table: &[u32; TABLE], place: usize, words: &[u32], sums: &mut [u32])
     requires { (place < width) × (length words.now ≡ length sums.old) }
     ensures { sums.new

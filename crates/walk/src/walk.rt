@@ -30,6 +30,7 @@ pub struct Walk {
 }
 
 // Slot j becomes the weight of the block's codeword j with base added, as far as there are slots; the later ones keep their values.
+// By index: after a zip with `iter_mut` a proof knows nothing of the elements.
 pub fn block_weights(block: &[u32], base: u32, weights: &mut [u32])
     ensures { weights.new
         ≡ map (λ b. distance b base) (take (length weights.old) block.now)

@@ -31,7 +31,8 @@ fn before(b: &[u64; WEIGHT_SLOTS], j: usize) -> u64
     if j == 0 { 0 } else { b[j - 1] }
 }
 
-// The entries of a, each with the entry before it of b added.
+// The entries of a, each with the entry before it of b added. This and the two below differ in their closure alone: to say of one function
+// what a closure gives for each entry would take more lines than they have.
 fn shifted(a: &[u64; WEIGHT_SLOTS], b: &[u64; WEIGHT_SLOTS]) -> [u64; WEIGHT_SLOTS]
     requires { Small a.now × Small b.now }
     ensures { result ≡ slots (λ j. get_or a.now j 0 + earlier (λ i. get_or b.now i 0) j) }

@@ -19,6 +19,7 @@ fn many_cause(words: &[u32]) -> Result<(), Refusal>
 }
 
 // Cause 7: a word with a one outside so many places.
+// As cause 3, but for the refusal: to take that as a closure is longer than the match.
 pub fn inside_cause(words: &[u32], places: u32) -> Result<(), Refusal>
     ensures { result ≡ inside_answer words.now places }
 {

@@ -50,5 +50,5 @@ pub fn fits(w: u32, n: u32) -> bool
 pub fn selected(row: u32, m: u32) -> u32
     ensures { result ≡ sel (m % 2) row }
 {
-    ((row as u64) & (4294967296 - (m & 1) as u64)) as u32
+    (u64::from(row) & (4294967296 - u64::from(m & 1))) as u32
 }

@@ -3,4 +3,4 @@ use Rattle.coding.proofs.MachineLaws.{masked_digit}
 use Rattle.words.proofs.word.selected.Goals as goal
 
 pub returns : goal.returns
-returns c = masked_digit c.args.row c.args.m c.ranges.row.fits
+returns c = rw (c.from.ensures, c.from-2.ensures) (masked_digit c.args.row c.args.m c.ranges.row.fits)
