@@ -20,7 +20,7 @@ pub enum Outcome<W> {
 }
 
 // What a word is answered by: a word, and its count.
-#[derive(Clone, Copy)]
+#[derive(Clone, Copy, PartialEq, Eq)]
 pub struct Correction<W> {
     pub word: W,
     pub count: u8,

@@ -1,11 +1,13 @@
 // Operations 33 and 34: every message, and every error pattern of a weight, of the extended Golay code.
 use crate::print::{item, mix};
+use crate::records::Entry;
 use golay::{decode, encode, message};
+use outcomes::Correction;
 use words::word::{sum, weight};
 
 // Whether the word received is answered so.
-fn answered(received: u32, word: u32, count: u32) -> bool {
-    decode(received).is_ok_and(|c| c.word == word && u32::from(c.count) == count)
+fn answered(received: u32, word: u32, count: u8) -> bool {
+    decode(received).is_ok_and(|c| c == Correction { word, count })
 }
 
 // The codeword of u, or 0 where u is no message.
@@ -29,7 +31,7 @@ pub(crate) fn messages(rt: &impl Print) {
 fn right(codeword: u32, pattern: u32, t: u32) -> bool {
     let w = sum(codeword, pattern);
     if t <= 3 {
-        answered(w, codeword, t)
+        answered(w, codeword, u8::of(t))
     } else {
         answered(w, w, 255)
     }

@@ -70,8 +70,11 @@ impl Calls {
 
     // Whether the word received is answered so.
     fn answers(self, received: Word, answer: Word, count: u8) -> bool {
-        let d = self.decode(received);
-        d.word.check == answer.check && d.word.data == answer.data && d.count == count
+        self.decode(received)
+            == Correction {
+                word: answer,
+                count,
+            }
     }
 
     // Whether the word with place p changed is far, and answered unchanged.
