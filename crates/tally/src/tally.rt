@@ -26,6 +26,7 @@ fn places_in(count: u8) -> u32
 }
 
 // The tally of so many words, by the counts that Decode leaves. Those that are neither clean nor far are mended.
+// Apart from the cut, since a public function demands nothing.
 fn tally_few(counts: &[u8]) -> Tally
     requires { length counts.now ≤ max_words }
     ensures { result ≡ slot_tally counts.now }

@@ -142,7 +142,7 @@ pub fn block_rows(k: usize) -> usize
     k.min(BLOCK_ROWS)
 }
 
-// The walk over all codewords of so few rows.
+// The walk over all codewords of so few rows. Apart from the cut, since a public function demands nothing.
 fn walk_few(rows: &[u32]) -> Walk
     requires { length rows.now < width }
     ensures { Walked rows.now (2 ^ length rows.now) result }
