@@ -1,17 +1,17 @@
 -- What the Golay calls promise: the steps end a word as Decode ends it with the Golay matrix within radius 3, so demand 3 is that of any
 -- accepted matrix, with dmin 8; and the message is read back.
-use Rattle.std.proofs.Common.{None}
+use Rattle.std.proofs.Common.{None, Result, Ok, Err}
 use mathlib.Core.Path.{◌≡◌, refl, sym, ap, subst, ◌∙◌}
 use mathlib.Core.Logic.{◌≢◌, ◌↔◌}
 use Prim.Native.Nat.{ℕ, ◌*◌, ◌/◌, ◌^◌, ◌<◌}
 use native.Mathlib.Omega.{arith}
-use mathlib.Core.Bool.{true, false}
+use mathlib.Core.Bool.{Bool, true, false}
 use lib.Dec.{ltb, lit<, lit≤}
-use borrow.Author.Tests.{ltb-true, ne_eqb, le-leb}
+use borrow.Author.Tests.{ltb-true, lt-ltb, ne_eqb, le-leb}
 use lib.Bits.{xor_lt, xor_self, xor_zero_r, xor_shifted}
 use lib.Count.{ones, ones_in}
 use Rattle.coding.specs.Word.{◌⊕◌, weight, distance}
-use Rattle.coding.specs.Matrix.{encode, Codeword, IsMessage, message_of}
+use Rattle.coding.specs.Matrix.{encode, Codeword, IsMessage, message_of, is_codeword}
 use Rattle.coding.specs.Radius.{RadiusRules}
 use Rattle.coding.specs.Inner.SystematicSyndrome.{systematic_syndrome}
 use Rattle.coding.proofs.WeightLaws.{weight-zero, weight_none}
@@ -19,20 +19,22 @@ use Rattle.coding.proofs.MatrixLaws.{codeword-lt}
 use Rattle.coding.proofs.SystematicLaws.{systematic-syndrome, systematic-syndrome-xor, systematic_message, systematic-codeword}
 use Rattle.coding.proofs.SearchLaws.{codeword-test, codeword_fails}
 use Rattle.answers.specs.declared.answer.Refusal.TheVariants.{WordOutside, NoCodeword}
+use Rattle.answers.specs.declared.answer.Refusal.{Refusal}
+use Rattle.answers.specs.Refusal.{done, unless, answered}
+use Rattle.answers.proofs.AnswerLaws.{unless_done, if_answered}
+use Rattle.outcomes.specs.declared.ending.Correction.{Correction}
 use Rattle.words.proofs.CodeLaws.{one_is, back_is}
 use Rattle.outcomes.specs.Outcome.{outcome_of, word_in, count_in, corrected}
 use Rattle.outcomes.specs.declared.ending.Reading.TheVariants.{Within}
-use Rattle.outcomes.specs.declared.ending.Correction.{Correction}
 use Rattle.outcomes.specs.declared.ending.Outcome.TheVariants.{Clean, Mended, Far}
 use Rattle.outcomes.proofs.DemandLaws.{outcome_found, outcome_none, radius_rule, clean_rule}
 use Rattle.golay_code.specs.Golay.{golay_checks, golay_rows}
 use Rattle.golay_code.proofs.GolayLaws.{golay_size, golay_inside, golay_accepted, golay_dmin, golay_distance}
 use Rattle.golay.specs.Inner.Steps.{Pattern, ErrorPattern}
-use Rattle.golay.specs.Encoded.{Encoded}
-use Rattle.golay.specs.Decoded.{golay_outcome, Decoded}
-use Rattle.golay.specs.MessageRead.{MessageRead}
+use Rattle.golay.specs.Encoded.{encode_answer, Encoded}
+use Rattle.golay.specs.Decoded.{golay_outcome, decode_answer, Decoded}
+use Rattle.golay.specs.MessageRead.{message_answer, MessageRead}
 use Rattle.golay.proofs.PatternLaws.{sum_lt, check-pattern}
-use Rattle.std.specs.Prelude.{Ok, Err}
 
 four_places : weight 15 ≡ 4
 unfolding ones ones_in
@@ -122,40 +124,41 @@ golay_encoded u h =
 
 -- ---- the answers
 
-module _ (u : ℕ) where
-  pub encode_refused : ltb u (2 ^ 12) ≡ false → Encoded u (Err (WordOutside 0))
-  encode_refused f = record { is = sym (simp f refl); back = golay_back }
+pub encode_is : (u : ℕ) (r : Result ℕ Refusal) → r ≡ answered (encode_answer u) (encode golay_rows u) → Encoded u r
+encode_is u r e = record { is = e; back = golay_back }
 
-  pub encode_done : ltb u (2 ^ 12) ≡ true → (w : ℕ) → w ≡ u * 2 ^ 12 ⊕ encode golay_checks u → Encoded u (Ok w)
-  encode_done t w e = record { is = ap Ok (e ∙ golay_encoded u (ltb-true u (2 ^ 12) t)) ∙ sym (simp t refl); back = golay_back }
+-- a word of so many places, by cause 7
+pub inside_lt : (w n : ℕ) → unless (ltb w (2 ^ n)) (WordOutside 0) done ≡ done → w < 2 ^ n
+inside_lt w n d = ltb-true w (2 ^ n) (unless_done _ _ _ d).0
+
+pub decode_is : (w : ℕ) (r : Result (Correction ℕ) Refusal) → r ≡ answered (decode_answer w) (corrected (golay_outcome w) w) → Decoded w r
+decode_is w r e = record {
+  is = e;
+  apart = golay_distance;
+  within = if_answered (decode_answer w) _ (λ c. RadiusRules ℕ (Codeword golay_rows) distance 8 3 w c.word c.count (c.count ≡ 255)) r e
+      (λ d. golay_rules w (inside_lt w 24 d));
+  clean = if_answered (decode_answer w) _ (λ c. (c.count ≡ 0) ↔ (golay_outcome w ≡ Clean w)) r e (λ _. golay_clean w);
+}
+
+pub read_is : (w : ℕ) (r : Result ℕ Refusal) → r ≡ answered (message_answer w) (message_of golay_rows w) → MessageRead w r
+read_is w r e = record { is = e; one = golay_message w; places = golay_places w }
 
 module _ (w : ℕ) where
-  pub decode_refused : ltb w (2 ^ 24) ≡ false → Decoded w (Err (WordOutside 0))
-  decode_refused f = record { is = sym (simp f refl); apart = golay_distance; within = tt; clean = tt }
+  pub read_outside : (c : Refusal) → Err c ≡ unless (ltb w (2 ^ 24)) (WordOutside 0) done → Err c ≡ message_answer w
+  read_outside c e = go (ltb w (2 ^ 24)) e
+    where
+      go : (b : Bool) → Err c ≡ unless b (WordOutside 0) done → Err c ≡ unless b (WordOutside 0) (unless (is_codeword golay_rows w) (NoCodeword 0) done)
+      go true f = absurd cc
+      go false f = f
 
-  pub decode_done : ltb w (2 ^ 24) ≡ true → (c : Correction ℕ) → c ≡ corrected (golay_outcome w) w → Decoded w (Ok c)
-  decode_done t c e = record {
-    is = ap Ok e ∙ sym (simp t refl);
-    apart = golay_distance;
-    within = rw e (golay_rules w (ltb-true w (2 ^ 24) t));
-    clean = rw e (golay_clean w);
-  }
+  module _ (d : done ≡ unless (ltb w (2 ^ 24)) (WordOutside 0) done) where
+    below : w < 2 ^ 24
+    below = inside_lt w 24 (sym d)
 
-  pub read_outside : ltb w (2 ^ 24) ≡ false → MessageRead w (Err (WordOutside 0))
-  read_outside f = record { is = sym (simp f refl); one = golay_message w; places = golay_places w }
+    pub read_refused : systematic_syndrome 12 golay_checks w ≢ 0 → Err (NoCodeword 0) ≡ answered (message_answer w) (message_of golay_rows w)
+    read_refused ne = sym (simp (lt-ltb w (2 ^ 24) below, codeword_fails golay_rows w (λ c. ne ((golay_test w below).0 c))) refl)
 
-  pub read_refused : ltb w (2 ^ 24) ≡ true → systematic_syndrome 12 golay_checks w ≢ 0 → MessageRead w (Err (NoCodeword 0))
-  read_refused t ne = record {
-    is = sym (simp (t, codeword_fails golay_rows w (λ c. ne ((golay_test w (ltb-true w (2 ^ 24) t)).0 c))) refl);
-    one = golay_message w;
-    places = golay_places w;
-  }
-
-  pub read_done : ltb w (2 ^ 24) ≡ true → systematic_syndrome 12 golay_checks w ≡ 0 → MessageRead w (Ok (w / 2 ^ 12))
-  read_done t z =
-      let c : Codeword golay_rows w = (golay_test w (ltb-true w (2 ^ 24) t)).1 z in
-      record {
-        is = ap Ok (sym (golay_places w c)) ∙ sym (simp (t, (codeword-test golay_rows w).1 c) refl);
-        one = golay_message w;
-        places = golay_places w;
-      }
+    pub read_done : systematic_syndrome 12 golay_checks w ≡ 0 → Ok (w / 2 ^ 12) ≡ answered (message_answer w) (message_of golay_rows w)
+    read_done z =
+        let c : Codeword golay_rows w = (golay_test w below).1 z in
+        ap Ok (sym (golay_places w c)) ∙ sym (simp (lt-ltb w (2 ^ 24) below, (codeword-test golay_rows w).1 c) refl)

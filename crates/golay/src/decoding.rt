@@ -5,10 +5,11 @@ ghost use Rattle.golay.specs.Inner.Steps.{FewInMessage, ErrorPattern};
 ghost use Rattle.golay.specs.Decoded.{golay_outcome, Decoded};
 
 use crate::nearby::near_row;
+use crate::places::inside;
 use crate::rows::{CHECK_ROWS, check_sum, syndrome};
 use answers::Refusal;
 use outcomes::{Correction, Outcome};
-use words::word::{fits, sum, weight};
+use words::word::{sum, weight};
 
 pub const RADIUS: u32 = 3;
 
@@ -64,8 +65,6 @@ fn outcome(received: u32) -> Outcome<u32>
 pub fn decode(received: u32) -> Result<Correction<u32>, Refusal>
     ensures { Decoded received result }
 {
-    if !fits(received, 24) {
-        return Err(Refusal::WordOutside(0));
-    }
+    inside(received, 24)?;
     Ok(outcome(received).correction(received))
 }

@@ -3,6 +3,7 @@
 
 pub mod decoding; // within radius 3
 pub mod encoding; // a message to its codeword
+pub mod places; // a word outside its places is refused
 pub mod read_back; // a codeword to its message
 pub mod nearby; // the row of P near a word, twelve tests side by side
 pub mod rows; // P, its row sums and the syndrome

@@ -1,17 +1,15 @@
 // Message: a codeword is read back to its message, places 12 to 23.
 ghost use Rattle.golay.specs.MessageRead.{MessageRead};
 
+use crate::places::inside;
 use crate::rows::syndrome;
 use answers::Refusal;
-use words::word::fits;
 
 // The message of a codeword; any other word is refused.
 pub fn message(word: u32) -> Result<u32, Refusal>
     ensures { MessageRead word result }
 {
-    if !fits(word, 24) {
-        return Err(Refusal::WordOutside(0));
-    }
+    inside(word, 24)?;
     if syndrome(word) != 0 {
         return Err(Refusal::NoCodeword(0));
     }
