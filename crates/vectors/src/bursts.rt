@@ -30,14 +30,15 @@ struct Tally {
 }
 
 impl Tally {
-    // One burst more.
+    // One burst more. The bool picks no step: it is what the decoding showed, and is counted as 0 or 1.
     fn add(&mut self, mended: bool) {
         self.cases = self.cases.wrapping_add(1);
         self.mended = self.mended.wrapping_add(u32::from(mended));
     }
 }
 
-// The code with its radius, the codewords sent, how many, and their bits.
+// The code with its radius, the codewords sent, how many, and their bits. The number of words stands beside them as the depth, in the u32 of
+// the bit numbers: taken from the list it would be converted at each of its three uses.
 #[derive(Clone, Copy)]
 struct Sent<'a> {
     matrix: Matrix<'a>,
@@ -99,7 +100,7 @@ impl Sent<'_> {
         }
     }
 
-    // Every pattern, or only the one of all ones, in each window.
+    // Every pattern, or only the one of all ones, in each window. A flag, as the record has it: it picks where the patterns begin, and no step.
     fn tally(&self, every: bool) -> Tally {
         let width = self.depth.wrapping_mul(self.radius);
         let windows = self

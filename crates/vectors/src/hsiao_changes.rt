@@ -11,7 +11,8 @@ pub(crate) const NOTHING: Correction<Word> = Correction {
     count: 0,
 };
 
-// The calls of a code: those of the (72,64) code, or those by a width.
+// The calls of a code: those of the (72,64) code, or those by a width. The width stays the number of the record, which the calls of
+// hsiao::widths take: an enum would be made from it here and turned back at each call.
 #[derive(Clone, Copy)]
 pub(crate) enum Calls {
     Own,
