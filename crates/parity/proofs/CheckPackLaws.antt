@@ -1,73 +1,87 @@
--- Laws of the loop that reads the check rows off a table by place: those up to a place are packed in front of zeros.
-use mathlib.Core.Path.{◌≡◌, sym, ap, ap₂, ◌∙◌}
-use mathlib.Core.Logic.{◌≢◌}
-use mathlib.Core.List.{List, [], ◌∷◌, map}
-use Prim.Native.Nat.{ℕ, ◌+◌, ◌*◌, ◌%◌, ◌^◌, ◌≤◌, ◌<◌}
+-- Laws of the loop that reads the check rows off a table by place: each place that is no pivot gives the next one, and they stand in front of zeros.
+use mathlib.Core.Path.{◌≡◌, refl, sym, ap, ap₂, ◌∙◌}
+use mathlib.Core.List.{List, [], ◌∷◌, ◌++◌, map}
+use mathlib.Core.Bool.{Bool}
+use Prim.Native.Nat.{ℕ, zero, suc, ◌+◌, ◌*◌, ◌%◌, ◌^◌, ◌≤◌, ◌<◌, suc-le-suc}
+use native.Mathlib.Nat.{zero-add, add-zero, add-suc, suc-add}
+use native.Mathlib.Numerals.{add-one}
 use native.Mathlib.Omega.{arith}
-use lib.ListN.{length, get_or, take, drop, set, length-map, drop_of_length-le}
+use lib.Dec.{eqb, eqb-suc-zero}
+use lib.ListN.{length, get_or, take, set, length-map, length-replicate}
 use lib.Seq.{length-take-le, get_or-take}
+use Rattle.std.specs.List.{filter, enumerate_from, range_with_len}
+use Rattle.std.proofs.lemmas.List.{drop-replicate}
+use Rattle.std.proofs.lemmas.Grind.{get_or_default_zero}
+use Rattle.std.proofs.lemmas.List.FromFn.{length-enumerate_from, get_or-enumerate_from}
 use Rattle.coding.specs.Lists.{zeros, padded}
 use Rattle.coding.specs.Word.{◌⊕◌}
 use Rattle.coding.specs.Reduce.{frees_from}
 use Rattle.coding.specs.Check.{column, check}
-use Rattle.coding.proofs.LoopLaws.{Packed, packed_start, packed_room, packed_push, packed_end}
+use Rattle.coding.proofs.LoopLaws.{Over, over-map_step, over_end}
 use Rattle.coding.proofs.MachineLaws.{shl_one}
-use Rattle.coding.proofs.CompactLaws.{frees_free, frees_pivot}
+use Rattle.coding.proofs.CompactLaws.{frees_from_lem}
 use Rattle.words.specs.Limits.{max_checks}
 
--- the check rows of the places from q on and below n that are no pivot
-abbrev pub checks_from : List ℕ → ℕ → ℕ → List ℕ
-checks_from table n q = map (check table) (frees_from q (drop q (take n table)))
+-- place q is no pivot
+abbrev pub is_free : List ℕ → ℕ → Bool
+is_free table q = eqb (get_or table q 0) 0
 
--- those of the places below q, j of them, stand in front of zeros
-pub record PackedChecks (table : List ℕ) (n q : ℕ) (checks : List ℕ) (j : ℕ) : Type 0 where
-  pub wide : (length table ≡ 32) × (n ≤ 32)
-  pub few : length (checks_from table n 0) ≤ max_checks
-  pub within : q ≤ n
-  pub packed : Packed max_checks checks j (checks_from table n q) (checks_from table n 0)
+kept_at : (table : List ℕ) (p x : ℕ) (l : List ℕ) → get_or table p 0 ≡ x → filter (is_free table) (range_with_len (suc p) (length l)) ≡ frees_from (suc p) l
+    → filter (is_free table) (range_with_len p (length (x ∷ l))) ≡ frees_from p (x ∷ l)
+kept_at table p zero l e rest = rw (add-one, e) (ap (λ (m : List ℕ). p ∷ m) rest)
+kept_at table p (suc x) l e rest = rw (add-one, e, eqb-suc-zero) rest
 
-pub pack_start : {table : List ℕ} {n : ℕ} → length table ≡ 32 → n ≤ 32 → length (frees_from 0 (take n table)) ≤ max_checks
-    → PackedChecks table n 0 (zeros max_checks) 0
-pack_start {table} {n} e h f = record {
-  wide = (e, h);
-  few = rw (length-map (frees_from 0 (take n table)) (check table)) f;
-  within = omega arith;
-  packed = packed_start max_checks (checks_from table n 0);
-}
+kept_from : (table : List ℕ) (p : ℕ) (l : List ℕ) → ((i : ℕ) → i < length l → get_or table (p + i) 0 ≡ get_or l i 0)
+    → filter (is_free table) (range_with_len p (length l)) ≡ frees_from p l
+kept_from table p [] f = refl
+kept_from table p (x ∷ l) f =
+    kept_at table p x l (rw add-zero at (f 0 (omega arith)))
+    (kept_from table (suc p) l (λ i h. rw (suc-add p i, ← add-suc p i) (f (suc i) (suc-le-suc h))))
 
-module _ {table : List ℕ} {n q : ℕ} {checks : List ℕ} {j : ℕ} (L : PackedChecks table n q checks j) where
-  size : length (take n table) ≡ n
-  size = length-take-le n table (omega (arith, L.wide))
+-- the places below n that are no pivot
+abbrev pub frees_below : List ℕ → ℕ → List ℕ
+frees_below table n = frees_from 0 (take n table)
 
-  module _ (h : q < n) where
-    module _ (e : get_or table q 0 ≡ 0) where
-      next : Packed max_checks checks j (check table q ∷ checks_from table n (q + 1)) (checks_from table n 0)
-      next =
-          let free : checks_from table n q ≡ check table q ∷ checks_from table n (q + 1)
-          = ap (map (check table)) (frees_free (take n table) q (rw size h) (get_or-take n table q 0 h ∙ e)) in
-          rw free at L.packed
+places_kept : (table : List ℕ) (n : ℕ) → n ≤ length table → filter (is_free table) (range_with_len 0 n) ≡ frees_below table n
+places_kept table n h =
+    let size : length (take n table) ≡ n = length-take-le n table h in
+    rw size at (kept_from table 0 (take n table) (λ i k. rw (zero-add i) (sym (get_or-take n table i 0 (omega (arith, size, k))))))
 
-      pub pack_room : j < max_checks
-      pack_room = packed_room max_checks checks j _ _ (checks_from table n 0) next L.few
+-- all are listed
+pub places_all : (table : List ℕ) (n : ℕ) → n ≤ length table
+    → length (enumerate_from 0 (filter (is_free table) (range_with_len 0 n))) ≡ length (frees_below table n)
+places_all table n h = length-enumerate_from 0 (filter (is_free table) (range_with_len 0 n)) ∙ ap length (places_kept table n h)
 
-      pub pack_push : {v : ℕ} → v ≡ column table q → PackedChecks table n (q + 1) (set checks j ((1 * 2 ^ q) % 2 ^ 32 ⊕ v)) (j + 1)
-      pack_push {v} k =
-          let row : (1 * 2 ^ q) % 2 ^ 32 ⊕ v ≡ check table q = ap₂ ◌⊕◌ (shl_one q 32 (omega (arith, L.wide))) k in
-          record {
-            wide = L.wide;
-            few = L.few;
-            within = omega arith;
-            packed = rw row (packed_push max_checks checks j (check table q) _ (checks_from table n 0) next L.few);
-          }
+-- the next place comes with its index
+pub place_turn : (table : List ℕ) (n i j q : ℕ) → n ≤ length table
+    → (i < length (enumerate_from 0 (filter (is_free table) (range_with_len 0 n))))
+      × ((j, q) ≡ get_or (enumerate_from 0 (filter (is_free table) (range_with_len 0 n))) i (j, q))
+    → (i < length (frees_below table n)) × (j ≡ i) × (q ≡ get_or (frees_below table n) i 0) × (q < n)
+place_turn table n i j q le (h, e) =
+    let items = filter (is_free table) (range_with_len 0 n) in
+    let kept : items ≡ frees_below table n = places_kept table n le in
+    let l : i < length items = rw (length-enumerate_from 0 items) at h in
+    let is = e ∙ get_or-enumerate_from 0 items i (j, q) l in
+    let more : i < length (frees_below table n) = rw kept at l in
+    let at : q ≡ get_or (frees_below table n) i 0
+    = ap (λ (p : ℕ × ℕ). p.1) is ∙ get_or_default_zero items i q l ∙ ap (λ (t : List ℕ). get_or t i 0) kept in
+    let size : length (take n table) ≡ n = length-take-le n table le in
+    let below : get_or (frees_below table n) i 0 < n
+    = frees_from_lem (λ x. x < n) 0 (take n table) (λ x k z. omega (arith, size, k)) i more in
+    (more, ap (λ (p : ℕ × ℕ). p.0) is ∙ zero-add i, at, omega (arith, at, below))
 
-    pub pack_skip : get_or table q 0 ≢ 0 → PackedChecks table n (q + 1) checks j
-    pack_skip ne =
-        let e : checks_from table n q ≡ checks_from table n (q + 1)
-        = ap (map (check table)) (frees_pivot (take n table) q (rw size h) (λ z. ne (sym (get_or-take n table q 0 h) ∙ z))) in
-        record { wide = L.wide; few = L.few; within = omega arith; packed = rw e at L.packed }
+-- the check rows of the first i of them stand in front of zeros
+abbrev pub Listed : List ℕ → ℕ → ℕ → List ℕ → Type 0
+Listed table n i checks = Over (map (check table) (frees_below table n)) (zeros max_checks) i checks
 
-  pub pack_end : n ≤ q → checks ≡ padded max_checks (checks_from table n 0)
-  pack_end h =
-      let e : checks_from table n q ≡ []
-      = ap (λ (l : List ℕ). map (check table) (frees_from q l)) (drop_of_length-le (take n table) {i = q} (rw size h)) in
-      packed_end max_checks checks j (checks_from table n 0) (rw e at L.packed) (omega (arith, L.packed.count, L.few))
+module _ (table : List ℕ) (n : ℕ) {i : ℕ} {checks : List ℕ} (L : Listed table n i checks) where
+  pub listed_step : (q v : ℕ) → i < length (frees_below table n) → length (frees_below table n) ≤ max_checks → q < 32
+      → q ≡ get_or (frees_below table n) i 0 → v ≡ column table q → Listed table n (i + 1) (set checks i ((1 * 2 ^ q) % 2 ^ 32 ⊕ v))
+  listed_step q v h few lt at k =
+      let row : (1 * 2 ^ q) % 2 ^ 32 ⊕ v ≡ check table q = ap₂ ◌⊕◌ (shl_one q 32 lt) k in
+      over-map_step (check table) (frees_below table n) L _ h (rw (length-replicate {A = ℕ} max_checks 0) (omega (arith, h, few))) (row ∙ ap (check table) at)
+
+  pub listed_end : i ≡ length (frees_below table n) → checks ≡ padded max_checks (map (check table) (frees_below table n))
+  listed_end e =
+      let rows = map (check table) (frees_below table n) in
+      over_end L (e ∙ sym (length-map (frees_below table n) (check table))) ∙ ap (λ (l : List ℕ). rows ++ l) (drop-replicate _ max_checks 0)

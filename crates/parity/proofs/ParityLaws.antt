@@ -27,13 +27,12 @@ use Rattle.linear.specs.declared.reduction.Reduction.{Reduction}
 use Rattle.parity.specs.ParityChecks.{ParityChecksOf, CodeOf}
 use Rattle.parity.specs.declared.check.Code.{Code}
 use Rattle.linear.proofs.PivotTableLaws.{wide, table_take, reduced_rows_lem}
-use Rattle.parity.proofs.CheckPackLaws.{checks_from}
 
 module _ (n k : ℕ) (rows : List ℕ) (A : Accepted n k rows) (table : List ℕ) (is : table ≡ reduce 32 rows) where
   pub checks_few : length (frees_from 0 (take n table)) ≤ max_checks
   checks_few = rw (table_take n k rows A table is) (omega (arith, frees_are n k rows A, A.range.checks))
 
-  pub checks_are : checks_from table n 0 ≡ checks n rows
+  pub checks_are : map (check table) (frees_from 0 (take n table)) ≡ checks n rows
   checks_are =
       ap (λ (l : List ℕ). map (check table) (frees_from 0 l)) (table_take n k rows A table is)
       ∙ map_same (check table) (check (reduce n rows)) (frees_from 0 (reduce n rows)) (λ i h. same (get_or (frees_from 0 (reduce n rows)) i 0))

@@ -63,12 +63,8 @@ fn check_rows(table: &[u32; WIDTH], n: usize) -> [u32; MAX_CHECKS]
     ensures { result ≡ padded max_checks (map (check table.now) (frees_from 0 (take n table.now))) }
 {
     let mut checks = [0u32; MAX_CHECKS];
-    let mut j: usize = 0;
-    for q in 0..n {
-        if table[q] == 0 {
-            checks[j] = (1u32 << q) ^ column(table, q as u32);
-            j += 1;
-        }
+    for (j, q) in (0..n).filter(|q| table[*q] == 0).enumerate() {
+        checks[j] = (1u32 << q) ^ column(table, q as u32);
     }
     checks
 }

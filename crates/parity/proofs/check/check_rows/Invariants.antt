@@ -1,6 +1,7 @@
--- `parity::check::check_rows`: the check rows of the free places below q are packed in front of zeros.
-use Rattle.parity.proofs.CheckPackLaws.{PackedChecks}
+-- So many check rows stand in front of zeros.
+use Rattle.std.proofs.Common.{length}
+use Rattle.parity.proofs.CheckPackLaws.{Listed}
 use Rattle.parity.proofs.check.check_rows.Given as goal
 
-abbrev pub invariant-loop-q : goal.invariant-loop-q
-invariant-loop-q l = PackedChecks l.table l.n l.q l.checks l.j
+abbrev pub invariant-loop-j : goal.invariant-loop-j
+invariant-loop-j l = Listed l.table l.n (length l.yielded) l.checks
