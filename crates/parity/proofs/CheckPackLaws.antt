@@ -55,7 +55,7 @@ places_all table n h = length-enumerate_from 0 (filter (is_free table) (range_wi
 -- the next place comes with its index
 pub place_turn : (table : List ℕ) (n i j q : ℕ) → n ≤ length table
     → (i < length (enumerate_from 0 (filter (is_free table) (range_with_len 0 n))))
-      × ((j, q) ≡ get_or (enumerate_from 0 (filter (is_free table) (range_with_len 0 n))) i (j, q))
+    × ((j, q) ≡ get_or (enumerate_from 0 (filter (is_free table) (range_with_len 0 n))) i (j, q))
     → (i < length (frees_below table n)) × (j ≡ i) × (q ≡ get_or (frees_below table n) i 0) × (q < n)
 place_turn table n i j q le (h, e) =
     let items = filter (is_free table) (range_with_len 0 n) in
