@@ -38,9 +38,9 @@ pub extern "C" fn relay_hsiao_width_decode(
 ) -> u32
     ensures { Told
         (Wrote
-          (Decoded width (record { check = check; «data» = bits }))
-          (record { word = record { check = 0; «data» = 0 }; count = 0 })
-          (record { word = record { check = out_check.new; «data» = out_bits.new }; count = count.new }))
+        (Decoded width (record { check = check; «data» = bits }))
+        (record { word = record { check = 0; «data» = 0 }; count = 0 })
+        (record { word = record { check = out_check.new; «data» = out_bits.new }; count = count.new }))
         (word_answer width (record { check = check; «data» = bits }) done)
         result
         value.new }
