@@ -22,7 +22,7 @@ pub enum Refusal {
 }
 
 impl Refusal {
-    // The number of the cause.
+    // The number of the cause. By hand, as document 01 numbers them.
     pub fn number(self) -> u32
         ensures { result ≡ number_of self }
     {

@@ -14,7 +14,7 @@ use outcomes::outcome_of;
 use parity::syndromes;
 use words::limits::MAX_CHECKS;
 
-// The lists lent to Decode: for the codewords, for the counts, and for the leaders, with which it works.
+// The lists lent to Decode, three as in C and in document 01: for the codewords, for the counts, and for the leaders, with which it works.
 #[derive(Drop)]
 pub struct Lent<'a> {
     pub codewords: &'a mut [u32],
@@ -65,7 +65,7 @@ fn correct(batch: &Batch, out: &mut [u32], counts: &mut [u8])
     }
 }
 
-// The same from syndromes.
+// The same from syndromes, in parts of lists as above.
 fn answer_words(batch: &Batch, leaders: &[u32], out: &mut [u32], counts: &mut [u8])
     requires lengths { (length out.old ≡ length batch.now.words.now) × (length counts.old ≡ length batch.now.words.now) }
     requires syndromes { (i : ℕ) → i < length out.old → get_or out.old i 0 < length leaders.now }
@@ -102,7 +102,7 @@ fn decode_words(
     answer_words(batch, leaders, &mut out[..m], &mut counts[..m]);
 }
 
-// Decode, with the minimum distance where it is measured.
+// Decode, with the minimum distance where it is measured: a bool, since the reading, a value, decides too.
 fn decode_by(measure: bool, batch: &Batch, lent: &mut Lent) -> Result<Option<u32>, Refusal>
     ensures decoded { Decoded (batch_of batch.now) (lists_of lent.old) (answer_of result) (lists_of lent.new) }
     ensures dmin_value { measure ≡ true → IfOk result (λ d. d ≡ Some (dmin batch.now.matrix.rows.now)) }

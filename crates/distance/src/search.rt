@@ -17,6 +17,7 @@ pub(crate) fn least_sum<F: Fn(u32, u32) -> u32>(
     ensures { (f : ℕ → ℕ) → ((b x y : ℕ) → F.post keep.now b x y → y ≡ min b (f x))
         → LeastSum f rows.now (length rows.now) t base best result }
 {
+    // The end of the recursion.
     if t == 1 {
         return rows.iter().fold(best, |least, row| keep(least, row ^ base));
     }

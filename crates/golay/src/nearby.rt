@@ -33,6 +33,7 @@ const ROW_LANES: u64 = 0x5B5AD6B5AD6B5AD;
 const HIGH_LANES: u64 = 0x842108421084210;
 
 // In lane i, the number of places that s and row i have in common. No `row_sum`: the lanes are added, not summed modulo 2.
+// That s is a syndrome stands in the contract, as in `decoding`.
 fn overlaps(s: u32) -> u64
     requires { s < 2 ^ 12 }
     ensures { result ≡ lanes (λ p. weight (bit_and s p)) golay_checks }

@@ -1,5 +1,6 @@
 // Document 02, No. 3: the codes of 16, 32 and 64 data bits, (22,16), (39,32) and (72,64), by this number, their width. The columns of the
-// shorter codes are the first ones of the table: they are the (72,64) code shortened, and have its sum of columns, syndrome and scan.
+// shorter codes are the first ones of the table: they are the (72,64) code shortened, and have its sum of columns, syndrome and scan. The width
+// is C's number, matched once in each call.
 ghost use Rattle.std.specs.Prelude.{◌≡◌, true};
 ghost use Rattle.answers.specs.Refusal.{done, answered};
 ghost use Rattle.hsiao.specs.Widths.Code.{checks_of};

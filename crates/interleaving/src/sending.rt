@@ -12,6 +12,7 @@ use linear::accept;
 use words::lists::inside_cause;
 use words::shape::Matrix;
 
+// That n is a width stands in each contract: a type for it would be made for one call.
 // Writes the places of word i, lowest first, as the bits i, L + i, 2 L + i and so on.
 fn send_word(n: u32, words: &[u32], i: usize, bits: &mut [u8])
     requires i_in_bounds { (i < length words.now) × (length bits.old ≡ length words.now * n) × (n ≤ width) }

@@ -19,6 +19,7 @@ fn with_lowest(w: u32, bit: u8) -> u32
     (w << 1) ^ u32::from(bit)
 }
 
+// That n is a width stands in each contract: a type for it would be made for one call.
 // Word i, its places read from the highest to the lowest, two a turn. A `for` over the places, or over pairs of
 // them, takes more than the 8 instructions a bit that docs/BENCHMARKS.md allows where n is 7.
 fn sorted_word(bits: &[u8], depth: usize, n: u32, i: usize) -> u32
@@ -48,7 +49,7 @@ pub(crate) fn sort_words(bits: &[u8], depth: usize, n: u32, out: &mut [u32])
     }
 }
 
-// Writes the words that the bits say.
+// Writes the words that the bits say. Depth and n stand beside the bits, since each may be wrong and is refused by its own cause.
 pub fn deinterleave(
     matrix: &Matrix,
     depth: usize,

@@ -33,7 +33,8 @@ fn radius_cause(radius: u32, d: u32) -> Result<(), Refusal>
     Ok(())
 }
 
-// Causes 1 to 5, and past them what the matrix told. Within a radius its minimum distance is always asked for.
+// Causes 1 to 5, and past them what the matrix told. Within a radius its minimum distance is always asked for:
+// the reading, a value, decides too, so that `measure` is one.
 fn known_past_5(measure: bool, matrix: &Matrix, reading: Reading) -> Result<Known, Refusal>
     ensures known { KnownPast (asked reading measure) matrix.now.n matrix.now.rows.now
         (code_answer matrix.now.n matrix.now.k matrix.now.rows.now reading) result }

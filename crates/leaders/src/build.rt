@@ -63,6 +63,7 @@ impl Filling<'_> {
         requires { TryingIn self.old m t prefix s }
         ensures { TriedIn self.old m t prefix self.new result }
     {
+        // The ends of the recursion.
         if t == 1 {
             return self.units(m, prefix, s);
         }
@@ -80,7 +81,7 @@ impl Filling<'_> {
     }
 }
 
-// The list of the leaders: the words of n places and weight up to c are tried until no entry is blank. Answers how many were. n and c are what
+// The list of the leaders: the words of n places and weight up to c are tried until no entry is blank. Answers how many were. n, a width, and c are what
 // the columns, which have an entry for each place of a machine word, do not tell.
 fn fill_list(list: &mut [u32], cols: [u32; WIDTH], n: usize, c: usize) -> u32
     requires cols_len { (length cols ≡ width) × (n ≤ width) × (c < width) × (0 < length list.old) × (length list.old < 2 ^ 32) }
@@ -102,7 +103,8 @@ fn fill_list(list: &mut [u32], cols: [u32; WIDTH], n: usize, c: usize) -> u32
     tried as u32
 }
 
-// The list that the words of n places and weight up to c fill, by the first c check rows, and how many of them were tried.
+// The list that the words of n places and weight up to c fill, by the first c check rows, and how many of them were tried. c stands beside the
+// array as in `parity::syndromes`.
 pub(crate) fn build(checks: &[u32; MAX_CHECKS], n: usize, c: usize, list: &mut [u32]) -> u32
     requires { (n ≤ width) × (c < width) × (length list.old ≡ 2 ^ c) }
     ensures list_after { list.new ≡ filled_by (take c checks.now) n c }

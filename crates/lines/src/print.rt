@@ -141,7 +141,7 @@ impl Writer<'_> {
         self.put_number(half_below(d) as usize, LINE_FEED);
     }
 
-    // The n digits of a word, place 0 leftmost.
+    // The n digits of a word, place 0 leftmost. That n is a width stands in three contracts: a type for it would be made for one call.
     fn put_digits(&mut self, n: u32, w: u32)
         requires { (n ≤ width) × Room n self.old }
         ensures { Wrote self.old (digits_of n w) self.new }
@@ -221,6 +221,7 @@ pub fn put_refusal(out: &mut [u8], number: u32, value: usize) -> Option<usize>
     Some(writer.at)
 }
 
+// n, k and d stand beside the lists, since a matrix has rows, which are not printed.
 // All lines of a batch, into a list that holds the longest output; one that cannot be printed leaves the list as it was.
 pub fn put_batch(
     out: &mut [u8],

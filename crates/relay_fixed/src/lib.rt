@@ -1,4 +1,5 @@
-// The fixed codes for programs in C and other languages; bindings/relaymarten.h declares the calls.
+// The fixed codes for programs in C and other languages; bindings/relaymarten.h declares the calls, each a symbol of its
+// own.
 #![tactic(auto)]
 
 pub mod golay_words; // the extended Golay code

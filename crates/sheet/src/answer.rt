@@ -4,7 +4,7 @@ ghost use Rattle.sheet.specs.Fault.{number_of, value_of};
 
 use outcomes::Reading;
 
-// So many words of four bytes each in the bytes of a sheet, from a position on.
+// So many words of four bytes each in the bytes of a sheet, from a position on: a slice would be one of bytes.
 #[derive(Clone, Copy)]
 pub struct Span {
     pub at: usize,

@@ -93,7 +93,8 @@ fn kept(held: Option<Lightest>, found: Lightest) -> Lightest
     }
 }
 
-// The walk goes on over the block with base added; the second list is room for its weights.
+// The walk goes on over the block with base added; the second list is room for its weights. Block, base and weights are no struct: each call
+// has another base, and the weights alone are written.
 fn walk_block(block: &[u32], base: u32, weights: &mut [u32], walk: Walk) -> Walk
     requires weights_len { length weights.old ≡ length block.now }
     requires room { (j : ℕ) → get_or walk.counts j 0 + length block.now < 2 ^ 32 }

@@ -49,6 +49,7 @@ fn added(a: &[u64; WEIGHT_SLOTS], times: u64, b: &[u64; WEIGHT_SLOTS]) -> [u64; 
 }
 
 // The overlaps with words of n places, so many of each weight: from the largest weight down, one place after the other.
+// That n is a width stands in each contract: a type for it would be made for one call.
 fn overlap_counts(n: usize, counts: &[u32; WEIGHT_SLOTS]) -> Overlaps
     requires { (n ≤ width) × ((i : ℕ) → get_or counts.now i 0 ≤ 4096) }
     ensures { (result.even ≡ slots (part_sum 0 n (λ i. get_or counts.now i 0) (suc n)))

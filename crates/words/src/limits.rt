@@ -1,4 +1,5 @@
 // The limits of document 01, those of n and k as 02, No. 7, has them, for the code; specs/Limits.antt has them for the contracts.
+// A number of places is a u32, as in C, and an index a usize: between the two there is no `From`, so that `as` stays.
 // Nothing is allocated: lists of rows, check rows and weights are arrays of these lengths, with 0 where a code has fewer.
 pub const MIN_PLACES: u32 = 2;
 
