@@ -1,7 +1,7 @@
 // Operations 20 to 24, on a matrix, a batch of words and lent lists: the words follow the matrix in the record, then the number of slots of
 // each list.
 use crate::lent::{UNUSED, with_list, with_lists};
-use crate::records::{Record, SLOTS, list};
+use crate::records::{Record, SLOTS, lent, list};
 use decoder::decode;
 use encoder::{encode, message};
 use judging::Batch;
@@ -46,13 +46,13 @@ pub(crate) fn call(rt: &(impl Input + Print), operation: u8, record: &Record) {
     match operation {
         20 => with_list(
             rt,
-            &mut [UNUSED; SLOTS],
+            lent(rt, &mut [UNUSED; SLOTS]),
             UNUSED,
             |out| encode(&matrix, words, out),
         ),
         21 => with_list(
             rt,
-            &mut [UNUSED; SLOTS],
+            lent(rt, &mut [UNUSED; SLOTS]),
             UNUSED,
             |out| message(&matrix, words, out),
         ),

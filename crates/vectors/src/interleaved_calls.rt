@@ -2,16 +2,19 @@
 // number of slots of each lent list.
 use crate::bursts;
 use crate::lent::{UNUSED, UNUSED_COUNT, with_list, with_lists};
-use crate::records::{Record, SLOTS, list, number};
+use crate::records::{Record, SLOTS, lent, lent_bytes, list, number};
 use interleaving::{decode, deinterleave, interleave};
 
 // Interleave.
 fn sent(rt: &(impl Input + Print), record: &Record) {
     let mut buffer = [0u32; SLOTS];
     let words = list(rt, &mut buffer);
-    with_list(rt, &mut [UNUSED_COUNT; SLOTS], UNUSED_COUNT, |bits| {
-        interleave(&record.matrix(), words, bits)
-    });
+    with_list(
+        rt,
+        lent_bytes(rt, &mut [UNUSED_COUNT; SLOTS]),
+        UNUSED_COUNT,
+        |bits| interleave(&record.matrix(), words, bits),
+    );
 }
 
 // Deinterleave, at the depth x.
@@ -19,9 +22,12 @@ fn sorted(rt: &(impl Input + Print), record: &Record) {
     let depth = record.x as usize;
     let mut buffer = [0u8; SLOTS];
     let bits = list(rt, &mut buffer);
-    with_list(rt, &mut [UNUSED; SLOTS], UNUSED, |out| {
-        deinterleave(&record.matrix(), depth, bits, out)
-    });
+    with_list(
+        rt,
+        lent(rt, &mut [UNUSED; SLOTS]),
+        UNUSED,
+        |out| deinterleave(&record.matrix(), depth, bits, out),
+    );
 }
 
 // Decode within the radius x; the depth stands before the bits.

@@ -1,6 +1,6 @@
 // Lists that are lent to a call, with a mark in every slot, and printed after it. How many slots are lent stands in the record.
 use crate::print::{answer, list};
-use crate::records::{Entry, SLOTS, lent};
+use crate::records::{Entry, SLOTS, lent, lent_bytes};
 use answers::Refusal;
 use decoder::Lent;
 
@@ -16,14 +16,13 @@ pub(crate) const UNUSED_ENTRY: u32 = 7777;
 
 // The answer of a call on one list, with this mark in its slots, and the list.
 pub(crate) fn with_list<T: Entry, F: FnOnce(&mut [T]) -> Result<(), Refusal>>(
-    rt: &(impl Input + Print),
-    slots: &mut [T],
+    rt: &impl Print,
+    out: &mut [T],
     mark: T,
     call: F,
 )
     requires { F.IsAlwaysCallable call }
 {
-    let out = lent(rt, slots);
     answer(rt, call(out), ());
     list(rt, out, mark);
 }
@@ -40,7 +39,7 @@ pub(crate) fn with_lists<F: FnOnce(&mut Lent) -> Result<(), Refusal>>(
     let mut work = [UNUSED_ENTRY; ENTRIES];
     let mut lists = Lent {
         codewords: lent(rt, &mut words),
-        counts: lent(rt, &mut counts),
+        counts: lent_bytes(rt, &mut counts),
         work: lent(rt, &mut work),
     };
     answer(rt, call(&mut lists), ());

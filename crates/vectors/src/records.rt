@@ -66,6 +66,12 @@ pub(crate) fn lent<'a, T>(rt: &impl Input, list: &'a mut [T]) -> &'a mut [T] {
     start(list, number(rt) as usize)
 }
 
+// As many bytes as the next number says, for bits or counts; all of them where the list has fewer.
+pub(crate) fn lent_bytes<'a>(rt: &impl Input, list: &'a mut [u8]) -> &'a mut [u8] {
+    let within = list.len().min(number(rt) as usize);
+    &mut list[..within]
+}
+
 // A list after its length, at the start of the buffer; none where the buffer is shorter.
 pub(crate) fn list<'a, T: Entry>(rt: &impl Input, buffer: &'a mut [T]) -> &'a [T] {
     let list = lent(rt, buffer);

@@ -23,12 +23,18 @@ fn decoded(rt: &impl Print, width: u32, w: Word) {
 pub(crate) fn call(rt: &impl Print, operation: u8, record: &Record) {
     let data = data_of(record);
     let width = record.x;
+    // The width 0 names the (72,64) code's own calls.
+    let calls = if width == 0 {
+        Calls::Own
+    } else {
+        Calls::Width(width)
+    };
     let x = record.rows.first().copied().unwrap_or(0);
     item(rt, x);
     match operation {
         50 => encoded(rt, width, data),
         51 => decoded(rt, width, word_of(data, x)),
-        53 => changes(rt, Calls::Width(width), data),
-        _ => with_count(rt, Calls::Width(width), data, x),
+        53 => changes(rt, calls, data),
+        _ => with_count(rt, calls, data, x),
     }
 }
