@@ -1,18 +1,20 @@
 -- Laws of the loop that lists the rows of a table by place: they are the entries but 0, and stand in front of zeros.
 use mathlib.Core.Path.{◌≡◌, refl, ap, ◌∙◌}
-use mathlib.Core.List.{List, [], ◌∷◌, ◌++◌}
+use mathlib.Core.List.{List, [], ◌∷◌}
 use mathlib.Core.Bool.{Bool, not}
-use Prim.Native.Nat.{ℕ, zero, suc, ◌<◌}
+use Prim.Native.Nat.{ℕ, zero, suc, ◌+◌, ◌≤◌, ◌<◌}
 use native.Mathlib.Nat.{zero-add}
+use native.Mathlib.Numerals.{add-one}
+use native.Mathlib.Omega.{arith}
 use lib.Dec.{eqb, eqb-suc-zero}
-use lib.ListN.{length, get_or}
+use lib.ListN.{length, get_or, drop, set, drop_of_length-le}
+use lib.Seq.{drop-cons}
 use Rattle.std.specs.List.{filter, enumerate_from}
-use Rattle.std.proofs.lemmas.List.{drop-replicate}
 use Rattle.std.proofs.lemmas.Grind.{get_or_default_zero}
 use Rattle.std.proofs.lemmas.List.FromFn.{length-enumerate_from, get_or-enumerate_from}
-use Rattle.coding.specs.Lists.{zeros, padded}
+use Rattle.coding.specs.Lists.{padded}
 use Rattle.coding.specs.Reduce.{rows_of}
-use Rattle.coding.proofs.LoopLaws.{Over, over_end}
+use Rattle.coding.proofs.LoopLaws.{Packed, packed_push, packed_end}
 
 abbrev pub is_row : ℕ → Bool
 is_row row = not (eqb row 0)
@@ -26,10 +28,22 @@ rows_kept (suc row ∷ table) = rw eqb-suc-zero (ap (λ (l : List ℕ). suc row 
 pub rows_all : (table : List ℕ) → length (enumerate_from 0 (filter is_row table)) ≡ length (rows_of table)
 rows_all table = length-enumerate_from 0 (filter is_row table) ∙ ap length (rows_kept table)
 
--- and stand in front of zeros
-pub rows_padded : (table : List ℕ) (m : ℕ) {i : ℕ} {rows : List ℕ} → Over (rows_of table) (zeros m) i rows → i ≡ length (rows_of table)
-    → rows ≡ padded m (rows_of table)
-rows_padded table m O e = over_end O e ∙ ap (λ (l : List ℕ). rows_of table ++ l) (drop-replicate _ m 0)
+-- the first i of them stand in front of zeros, and the others are still to come
+abbrev pub Compacted : List ℕ → ℕ → ℕ → List ℕ → Type 0
+Compacted table m i rows = Packed m rows i (drop i (rows_of table)) (rows_of table)
+
+pub compacted_step : (table : List ℕ) (m : ℕ) {i : ℕ} {rows : List ℕ} → Compacted table m i rows → (row : ℕ) → i < length (rows_of table)
+    → length (rows_of table) ≤ m → row ≡ get_or (rows_of table) i 0 → Compacted table m (i + 1) (set rows i row)
+compacted_step table m {i} {rows} P row h few e =
+    let all = rows_of table in
+    rw (e, add-one) (rw add-one at (packed_push m rows i (get_or all i 0) (drop (suc i) all) all (rw (drop-cons all i 0 h) at P) few))
+
+-- and all of them do
+pub rows_padded : (table : List ℕ) (m : ℕ) {i : ℕ} {rows : List ℕ} → Compacted table m i rows → i ≡ length (rows_of table)
+    → length (rows_of table) ≤ m → rows ≡ padded m (rows_of table)
+rows_padded table m {i} {rows} P e few =
+    let all = rows_of table in
+    packed_end m rows i all (rw (drop_of_length-le all {i = i} (omega (arith, e))) at P) (omega (arith, e, few))
 
 -- the next row comes with its index
 pub row_turn : (table : List ℕ) (i j row : ℕ)

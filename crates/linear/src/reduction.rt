@@ -44,16 +44,16 @@ pub(crate) fn eliminate(rows: &[u32]) -> Elimination
     let mut table = [0u32; WIDTH];
     let mut messages = [0u32; WIDTH];
     let mut rank = 0;
-    'rows: for (i, &row) in rows.iter().enumerate() {
+    for (i, &row) in rows.iter().enumerate() {
         let mut x = row;
         let mut m = 1u32 << i;
         for p in 0..WIDTH {
             let digit = x >> p;
             x ^= selected(table[p], digit);
             m ^= selected(messages[p], digit);
-            if x == 0 {
-                break 'rows;
-            }
+        }
+        if x == 0 {
+            break;
         }
         let q = x.trailing_zeros() as usize;
         let before = table;

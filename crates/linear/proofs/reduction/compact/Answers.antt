@@ -5,8 +5,7 @@ use borrow.Author.Tests.{tests}
 use Rattle.std.specs.List.{filter, enumerate_from}
 use Rattle.std.proofs.lemmas.Iterator.{YieldsList, YieldsList-from_slice}
 use Rattle.std.proofs.lemmas.Iterator.Consumers.{YieldsList-at, YieldsList-from_filter, YieldsList-from_enumerate, YieldsList-turn, YieldsList-end}
-use Rattle.coding.proofs.LoopLaws.{over_step}
-use Rattle.linear.proofs.RowPackLaws.{is_row, row_turn, rows_all, rows_padded}
+use Rattle.linear.proofs.RowPackLaws.{is_row, row_turn, rows_all, compacted_step, rows_padded}
 use Rattle.linear.proofs.reduction.compact.Goals.{After-into_iter-j-iterator}
 use Rattle.linear.proofs.reduction.compact.Given as given
 use Rattle.linear.proofs.reduction.compact.Goals as goal
@@ -34,10 +33,10 @@ loop-j-preserved c =
     let t = row_turn c.args.table.now (length c.loop-j.yielded) c.in-Some.j c.in-Some.field-0-1.now
     (YieldsList-turn e c.loop-j.yielded _ c.loop-j.yielded_by _ _ (c.in-Some.j, c.in-Some.field-0-1) c.in-Some.is c.next.ensures.steps) in
     rw (length_push c.loop-j.yielded (c.in-Some.j, c.in-Some.field-0-1), t.1)
-    (over_step c.loop-j.invariant c.in-Some.field-0-1.now t.0 (omega (arith, t, c.requires)) t.2)
+    (compacted_step c.args.table.now 20 c.loop-j.invariant c.in-Some.field-0-1.now t.0 c.requires t.2)
 
 pub returns : goal.returns
 returns c =
     let e = items (goal.at.returns c).After-into_iter-j-iterator in
     let t = YieldsList-end e c.loop-j.yielded _ c.loop-j.yielded_by _ _ c.in-None.is c.next.ensures.steps in
-    rows_padded c.args.table.now 20 c.loop-j.invariant (t.1 ∙ rows_all c.args.table.now)
+    rows_padded c.args.table.now 20 c.loop-j.invariant (t.1 ∙ rows_all c.args.table.now) c.requires
