@@ -3,20 +3,24 @@ use mathlib.Core.Path.{◌≡◌, refl, sym}
 use mathlib.Core.Logic.{◌≢◌}
 use mathlib.Core.List.{List, [], ◌∷◌}
 use mathlib.Core.Bool.{Bool, true, false}
-use Prim.Native.Nat.{ℕ, suc, ◌*◌, ◌≤◌, ◌<◌}
+use Prim.Native.Nat.{ℕ, zero, suc, ◌+◌, ◌*◌, ◌≤◌, ◌<◌}
+use native.Mathlib.Nat.{le_refl, zero-add}
+use native.Mathlib.Numerals.{add-one}
 use native.Mathlib.Omega.{arith}
 use lib.Dec.{eqb, leb, ltb}
-use lib.Bits.{bit_or, or_lt}
-use lib.ListN.{length}
+use lib.Bits.{bit_or}
+use lib.ListN.{length, get_or, drop, drop_of_length-le}
+use lib.Seq.{drop-cons}
 use Rattle.std.specs.List.{fold}
 use borrow.Author.Tests.{leb-true, le-leb, lt-leb, eqb-true, eq-eqb, ne_eqb, ltb-true, ltb-false}
 use Rattle.coding.specs.Matrix.{Inside}
+use Rattle.coding.proofs.LoopLaws.{Gathered, gathered_start, gathered_step, gathered-each, gathered_joint}
 use Rattle.words.specs.Limits.{max_depth}
 use Rattle.answers.specs.Refusal.{unless, Between, done}
 use Rattle.words.specs.Shape.{first_outside}
 use Rattle.answers.specs.declared.answer.Refusal.TheVariants.{NoDepth, NoBits}
 use Rattle.answers.proofs.AnswerLaws.{unless_done, and_then_done, goes, Numbered, unless-numbered, and_then-numbered}
-use Rattle.words.proofs.ShapeLaws.{outside_none, inside_none, joined_inside}
+use Rattle.words.proofs.ShapeLaws.{outside_none, inside_none}
 use Rattle.interleaving.specs.Causes.{only_bits, length_answer, bits_answer}
 use Rattle.std.specs.Prelude.{Err}
 
@@ -88,15 +92,26 @@ module _ (n L : ℕ) (bits : List ℕ) where
 abbrev joint : ℕ → List ℕ → ℕ
 joint a l = fold bit_or a l
 
-joint-up : (l : List ℕ) (a : ℕ) → a < 2 → Inside 1 l → joint a l < 2
-joint-up [] a h f = h
-joint-up (x ∷ l) a h f = joint-up l (bit_or a x) (or_lt 1 a x h (f 0 (omega arith))) (λ j k. f (suc j) (omega (arith, k)))
+module _ (bits : List ℕ) where
+  -- the bytes before i are joined, and then the others
+  joined_from : (m i a : ℕ) → i + m ≡ length bits → Gathered 1 bits i a → Gathered 1 bits (length bits) (joint a (drop i bits))
+  joined_from zero i a e G =
+      let all : i ≡ length bits = omega (arith, e) in
+      rw (drop_of_length-le bits {i = i} (omega (arith, all))) (rw all at G)
+  joined_from (suc m) i a e G =
+      let more : i < length bits = omega (arith, e) in
+      rw (drop-cons bits i 0 more) (rw add-one at (joined_from m (i + 1) (bit_or a (get_or bits i 0)) (omega (arith, e)) (gathered_step G more)))
 
-pub bits_test : (bits : List ℕ) → ltb (joint 0 bits) 2 ≡ only_bits bits
-bits_test bits = go (ltb (joint 0 bits) 2) refl
-  where
-    go : (t : Bool) → ltb (joint 0 bits) 2 ≡ t → t ≡ only_bits bits
-    go true e = sym (eq-eqb (first_outside 1 bits) (length bits) (inside_none 1 bits (joined_inside 1 0 bits (ltb-true (joint 0 bits) 2 e)).1))
-    go false e =
-        sym (ne_eqb (first_outside 1 bits) (length bits)
-        (λ z. absurd (omega (arith, ltb-false (joint 0 bits) 2 e, joint-up bits 0 (omega arith) (outside_none 1 bits z)))))
+  joined_all : Gathered 1 bits (length bits) (joint 0 bits)
+  joined_all = joined_from (length bits) 0 0 (zero-add (length bits)) (gathered_start 1 bits)
+
+  pub bits_test : ltb (joint 0 bits) 2 ≡ only_bits bits
+  bits_test = go (ltb (joint 0 bits) 2) refl
+    where
+      go : (t : Bool) → ltb (joint 0 bits) 2 ≡ t → t ≡ only_bits bits
+      go true e =
+          sym (eq-eqb (first_outside 1 bits) (length bits)
+          (inside_none 1 bits (gathered-each joined_all (le_refl (length bits)) (ltb-true (joint 0 bits) 2 e))))
+      go false e =
+          sym (ne_eqb (first_outside 1 bits) (length bits)
+          (λ z. absurd (omega (arith, ltb-false (joint 0 bits) 2 e, gathered_joint joined_all (outside_none 1 bits z)))))

@@ -62,13 +62,17 @@ fn fill_digits(digits: &mut [u8], w: u32)
 }
 
 // The digits of a number at the front of a list, those of its tenth and then the last one; answers how many. The compiler divides by 10
-// without a division. No Display: a `fmt::Write` for the writer is longer than this, and a
-// count of one digit, as most have, is one store.
+// without a division. No Display: a `fmt::Write` for the writer is longer than this, and a count of one digit, as most have, is one
+// store, for which no register is saved where it returns at once.
 fn fill_decimal(out: &mut [u8], x: usize) -> usize
     requires { length (decimal x) ≤ length out.old }
     ensures { Appends out.old 0 (decimal x) out.new result }
 {
-    let more = if x < 10 { 0 } else { fill_decimal(out, x / 10) };
+    if x < 10 {
+        out[0] = ZERO + x as u8;
+        return 1;
+    }
+    let more = fill_decimal(out, x / 10);
     out[more] = ZERO + (x % 10) as u8;
     more + 1
 }
