@@ -18,7 +18,8 @@ const WALKED_ROWS: usize = 12;
 
 const SUMMED_ROWS: usize = 3;
 
-// The minimum distance of reduced rows.
+// The minimum distance of reduced rows. Never in line: the lists of the walk are not on the stack while the matrix is reduced.
+#[inline(never)]
 fn least_weight(rows: &[u32]) -> u32
     requires { ReducedMatrix rows.now }
     ensures { result ≡ dmin rows.now }

@@ -13,7 +13,8 @@ use words::lists::list_cause;
 use words::shape::{Matrix, first_outside};
 
 // The first word whose syndrome by the first c check rows is not 0, if there is one. The syndromes stand in a list of their own.
-// c stands beside the array as in `parity::syndromes`.
+// c stands beside the array as in `parity::syndromes`. Never in line: its list is not on the stack while the matrix is reduced.
+#[inline(never)]
 fn first_other(checks: &[u32; MAX_CHECKS], c: usize, words: &[u32]) -> Option<usize>
     requires { length words.now ≤ max_words }
     ensures { result ≡ some_outside 0 (map (syndrome (take c checks.now)) words.now) }
