@@ -110,7 +110,7 @@ uint32_t relay_encode(uint32_t n, uint32_t k, const uint32_t *rows, size_t rows_
 /* The messages of codewords. Causes 1 to 4, 6 to 8 and 10. One word that is no codeword refuses the whole list under 10: after
  * relay_decode within a radius, leave out the words whose count is RELAY_FAR first.
  * Written: slot i of `out` becomes the message of codeword i; later slots keep their values.
- * Stack: about 4 kB. */
+ * Stack: about 3 kB. */
 uint32_t relay_message(uint32_t n, uint32_t k, const uint32_t *rows, size_t rows_len,
                        const uint32_t *words, size_t words_len,
                        uint32_t *out, size_t out_len, size_t *value);

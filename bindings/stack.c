@@ -175,7 +175,7 @@ static const struct {
     {"relay_describe", 6, describe},
     {"relay_leaders", 3, leaders},
     {"relay_encode", 2, encode},
-    {"relay_message", 4, message},
+    {"relay_message", 3, message},
     {"relay_decode", 5, decode},
     {"relay_interleave", 2, interleave},
     {"relay_deinterleave", 2, deinterleave},

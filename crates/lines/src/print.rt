@@ -62,8 +62,8 @@ fn fill_digits(digits: &mut [u8], w: u32)
 }
 
 // The digits of a number at the front of a list, those of its tenth and then the last one; answers how many. The compiler divides by 10
-// without a division. No Display: a `fmt::Write` for the writer is longer than this, and a count of one digit, as most have, is one
-// store, for which no register is saved where it returns at once.
+// without a division. No Display: a `fmt::Write` for the writer is longer than this, and a number of one digit is one store, and returns
+// before a register is saved.
 fn fill_decimal(out: &mut [u8], x: usize) -> usize
     requires { length (decimal x) ≤ length out.old }
     ensures { Appends out.old 0 (decimal x) out.new result }

@@ -11,6 +11,7 @@ ghost use Rattle.parity.specs.Syndromes.{SyndromeOf};
 use crate::batch::syndromes;
 use answers::Refusal;
 use linear::reduce;
+use linear::reduction::Reduction;
 use words::limits::{MAX_CHECKS, MAX_ROWS, WIDTH};
 use words::shape::Matrix;
 use words::word::{parity, place};
@@ -82,11 +83,15 @@ pub struct Code {
 pub fn code_of(matrix: &Matrix) -> Result<Code, Refusal>
     ensures { CodeOf matrix.now.n matrix.now.k matrix.now.rows.now result }
 {
-    let r = reduce(matrix)?;
+    let Reduction {
+        rows,
+        table,
+        messages,
+    } = reduce(matrix)?;
     Ok(Code {
-        rows: r.rows,
-        checks: check_rows(&r.table, matrix.n as usize),
-        messages: r.messages,
+        rows,
+        checks: check_rows(&table, matrix.n as usize),
+        messages,
     })
 }
 

@@ -23,7 +23,7 @@ fn decoded(rt: &impl Print, width: u32, w: Word) {
 pub(crate) fn call(rt: &impl Print, operation: u8, record: &Record) {
     let data = data_of(record);
     let width = record.x;
-    // The width 0 names the (72,64) code's own calls.
+    // From operation 52 on the width 0 names the (72,64) code's own calls.
     let calls = if width == 0 {
         Calls::Own
     } else {

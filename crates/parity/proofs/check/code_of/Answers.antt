@@ -15,7 +15,7 @@ use Rattle.parity.proofs.check.code_of.Goals as goal
 
 pub check_rows-requires : goal.check_rows-requires
 check_rows-requires c =
-    let (d, x) = answered_ok _ _ _ (sym c.in_ok-r.was ∙ c.reduce.ensures.is) in
+    let (d, x) = answered_ok _ _ _ (sym c.in_ok-rows.was ∙ c.reduce.ensures.is) in
     let A = accepted_in _ _ _ d in
     let t = ap (λ y. y.table) x in
     (omega (arith, A.range.places), checks_few _ _ _ A _ t)
@@ -24,11 +24,11 @@ pub returns : goal.returns
 returns c =
     let m = c.args.matrix.now in
     let a = matrix_answer m.n m.k m.rows.now in
-    let (d, x) = answered_ok a _ _ (sym c.in_ok-r.was ∙ c.reduce.ensures.is) in
+    let (d, x) = answered_ok a _ _ (sym c.in_ok-rows.was ∙ c.reduce.ensures.is) in
     let A = accepted_in m.n m.k m.rows.now d in
     let t = ap (λ y. y.table) x in
     let e = c.check_rows.ensures ∙ ap (padded max_checks) (checks_are m.n m.k m.rows.now A _ t) in
-    let same : Ok (record { rows = c.in_ok-r.r.rows; checks = c.check_rows.result; messages = c.in_ok-r.r.messages })
+    let same : Ok (record { rows = c.in_ok-rows.field-0.rows; checks = c.check_rows.result; messages = c.in_ok-rows.field-0.messages })
     ≡ Ok (record { rows = padded max_rows (reduced_rows m.n m.rows.now); checks = padded max_checks (checks m.n m.rows.now); messages = messages_by_pivot m.rows.now })
     = ap₂ (λ (x : Reduction) (y : List ℕ). Ok (record { rows = x.rows; checks = y; messages = x.messages })) x e in
     code_lem c.reduce.ensures _ (same ∙ ok_answered a _ d)
